@@ -1,0 +1,12 @@
+pub mod Least
+pub mod Tandem
+pub mod Accepted
+pub mod Kept
+pub mod ListLaws
+pub mod Places
+pub mod Reading
+pub mod Again
+pub mod Twice
+pub mod Whole
+pub mod Cases
+pub mod Demand3

@@ -1,0 +1,116 @@
+-- Document 01, "The eight areas": words, areas, records, elements.
+-- Assumes nothing.
+use mathlib.Core.Bool.{Bool, _&&_}
+use mathlib.Core.List.{List, [], _∷_}
+use Prim.Native.Nat.{ℕ, _+_, _*_, _/_}
+use lib.ListN.{length, getD}
+use lib.Dec.{eqb}
+
+-- "All areas are lent slices of 32-bit words."
+abbrev pub Words : Type 0
+Words = List ℕ
+
+-- "N is 4294967295, "no handle"."
+abbrev pub N : ℕ
+N = 4294967295
+
+-- areas 0 to 7
+pub record Areas : Type 0 where
+  pub types : Words
+  pub constants : Words
+  pub overrides : Words
+  pub globals : Words
+  pub expressions : Words
+  pub members : Words
+  pub components : Words
+  pub mentions : Words
+
+-- areas 0 to 4, the arenas: their records have handles
+pub data Arena : Type 0 where
+  types constants overrides globals expressions : Arena
+
+-- an arena's area number
+unfoldable pub number : Arena → ℕ
+number types = 0
+number constants = 1
+number overrides = 2
+number globals = 3
+number expressions = 4
+
+-- the arena of an area number; check 4 sees that a mention's is below 5
+unfoldable pub numbered : ℕ → Arena
+numbered n = getD (types ∷ constants ∷ overrides ∷ globals ∷ expressions ∷ []) n expressions
+
+-- an arena's words
+unfoldable pub words : Areas → Arena → Words
+words s types = s .types
+words s constants = s .constants
+words s overrides = s .overrides
+words s globals = s .globals
+words s expressions = s .expressions
+
+-- "Record": how many words it has
+unfoldable pub width : Arena → ℕ
+width types = 5  -- kind, flags, a, b, tag
+width constants = 4  -- named, type, init, tag
+width overrides = 4  -- named, type, init or N, tag
+width globals = 3  -- type, init or N, tag
+width expressions = 11  -- kind, nine slots, tag
+
+-- "area 0 to 4, handle"
+abbrev pub mentionWidth : ℕ
+mentionWidth = 2
+
+-- the eight areas by number
+unfoldable pub allWords : Areas → List Words
+allWords s =
+    s .types ∷ s .constants ∷ s .overrides ∷ s .globals ∷ s .expressions
+    ∷ s .members ∷ s .components ∷ s .mentions ∷ []
+
+-- their record widths; a pool's record is one handle
+unfoldable pub widths : List ℕ
+widths = width types ∷ width constants ∷ width overrides ∷ width globals ∷ width expressions ∷ 1 ∷ 1 ∷ mentionWidth ∷ []
+
+-- "Most records"
+unfoldable pub limits : List ℕ
+limits = 4096 ∷ 4096 ∷ 4096 ∷ 4096 ∷ 4096 ∷ 16384 ∷ 16384 ∷ 4096 ∷ []
+
+-- the length in words of the area of a number
+unfoldable pub lengthOf : Areas → ℕ → ℕ
+lengthOf s a = length (getD (allWords s) a [])
+
+-- and how many records that makes
+unfoldable pub recordsOf : Areas → ℕ → ℕ
+recordsOf s a = lengthOf s a / getD widths a 1
+
+-- how many records an arena has
+unfoldable pub size : Areas → Arena → ℕ
+size s a = length (words s a) / width a
+
+-- word k of record h: "A handle is a record's place in its area, from 0."
+unfoldable pub word : Areas → Arena → ℕ → ℕ → ℕ
+word s a h k = getD (words s a) (h * width a + k) 0
+
+-- the pool that an arena's runs lie in: members of types, components of expressions
+unfoldable pub pool : Areas → Arena → Words
+pool s types = s .members
+pool s constants = []
+pool s overrides = []
+pool s globals = []
+pool s expressions = s .components
+
+-- how many mentions
+unfoldable pub mentionCount : Areas → ℕ
+mentionCount s = length (s .mentions) / mentionWidth
+
+-- word k of mention h
+unfoldable pub mentionWord : Areas → ℕ → ℕ → ℕ
+mentionWord s h k = getD (s .mentions) (h * mentionWidth + k) 0
+
+-- an element of the module: a record of an arena
+pub data Elem : Type 0 where
+  at : Arena → ℕ → Elem
+
+-- are they one element ?
+unfoldable pub same : Elem → Elem → Bool
+same (at a h) (at b k) = eqb (number a) (number b) && eqb h k

@@ -1,0 +1,74 @@
+-- Document 01, "The order the sweep needs": what is marked at once, dep, the visiting order, well ordered.
+-- Assumes nothing.
+use mathlib.Core.Bool.{Bool, true, cond}
+use mathlib.Core.List.{List, [], _∷_, _++_}
+use Prim.Native.Nat.{ℕ, zero, suc, _+_, _-_, max, min}
+use lib.Dec.{eqb, ltb, leb}
+use Rattle.definitions.specs.Lists.{all}
+use Rattle.definitions.specs.Areas.{N, Arena, types, constants, overrides, globals, expressions, Areas, Elem, at, size, word}
+use Rattle.definitions.specs.References.{references}
+
+-- "marking a constant, override or global marks its type and init at once": what is marked with an element
+unfoldable pub behind : Areas → Elem → List Elem
+behind s (at types h) = []
+behind s (at constants h) = references s (at constants h)
+behind s (at overrides h) = references s (at overrides h)
+behind s (at globals h) = references s (at globals h)
+behind s (at expressions h) = []
+
+-- some elements, each with all that is marked with it
+unfoldable pub withBehind : Areas → List Elem → List Elem
+withBehind s [] = []
+withBehind s (x ∷ xs) = x ∷ (behind s x ++ withBehind s xs)
+
+-- one more than an init; 0 where there is none
+unfoldable pub onePast : ℕ → ℕ
+onePast i = cond (eqb i N) 0 (suc i)
+
+-- one more than the init of the override that sizes type t; 0 where there is none
+unfoldable pub sizedBy : Areas → ℕ → ℕ
+sizedBy s t = cond (eqb (word s types t 0) 2) (onePast (word s overrides (word s types t 3) 2)) 0
+
+-- "dep(T) is the largest init among the overrides that size T or any type before T; none, if there is none, and none is below every
+-- expression": one more than dep(T), and 0 for none, so that expression e is above dep(T) where maxDep s T is at most e.
+-- In the Rust: `max_dep` of `type_expression_tandem`
+unfoldable pub maxDep : Areas → ℕ → ℕ
+maxDep s zero = sizedBy s zero
+maxDep s (suc t) = max (maxDep s t) (sizedBy s (suc t))
+
+-- n expressions, youngest first, the last of them p
+unfoldable pub falling : ℕ → ℕ → List Elem
+falling p zero = []
+falling p (suc n) = at expressions (p + n) ∷ falling p n
+
+-- "all types are visited youngest first; before type T every unvisited expression above dep(T) is visited, youngest first; the rest follow
+-- at the end": the visits where t types and e expressions are left. In the Rust: the loops of `type_expression_tandem`
+unfoldable pub visits : Areas → ℕ → ℕ → List Elem
+visits s zero e = falling 0 e
+visits s (suc t) e = falling (maxDep s t) (e - maxDep s t) ++ (at types t ∷ visits s t (min e (maxDep s t)))
+
+-- all visits of a pass
+unfoldable pub order : Areas → List Elem
+order s = visits s (size s types) (size s expressions)
+
+-- "a type's bases, members and its override's type are older types; an expression's expressions, and the init behind its constant or
+-- override, are older expressions; and each type T that an expression names, or that stands behind its constant or override, has dep(T)
+-- below that expression": does x come later than y, to which it refers, or which stands behind what it refers to ?
+unfoldable pub later : Areas → Elem → Elem → Bool
+later s (at types t) (at types u) = ltb u t
+later s (at types t) (at constants h) = true
+later s (at types t) (at overrides h) = true
+later s (at types t) (at globals h) = true
+later s (at types t) (at expressions e) = true
+later s (at constants c) y = true
+later s (at overrides c) y = true
+later s (at globals c) y = true
+later s (at expressions e) (at types u) = leb (maxDep s u) e
+later s (at expressions e) (at constants h) = true
+later s (at expressions e) (at overrides h) = true
+later s (at expressions e) (at globals h) = true
+later s (at expressions e) (at expressions i) = ltb i e
+
+-- "An element's references are well ordered when: .."
+unfoldable pub wellOrdered : Areas → Arena → ℕ → Bool
+wellOrdered s a h = all (later s (at a h)) (withBehind s (references s (at a h)))

@@ -1,0 +1,67 @@
+-- Document 01, "Refusal numbers": what a pass answers and leaves. In the Rust: `compact`
+-- Assumes nothing.
+use mathlib.Core.Bool.{Bool}
+use mathlib.Core.List.{List, [], _∷_}
+use Prim.Native.Nat.{ℕ}
+use lib.ListN.{length}
+use Rattle.definitions.specs.Areas.{Words, Arena, types, constants, overrides, globals, expressions, Areas, Elem, at, size}
+use Rattle.definitions.specs.Sweep.{kept}
+use Rattle.definitions.specs.Numbering.{isKept, rank, mapAfter}
+use Rattle.definitions.specs.Records.{runsUpTo, areasAfter}
+use Rattle.definitions.specs.Refusals.{Verdict, accepted, refused, check}
+
+pub record Maps : Type 0 where
+  pub types : Words
+  pub constants : Words
+  pub overrides : Words
+  pub globals : Words
+  pub expressions : Words
+
+unfoldable pub lengths : Maps → List ℕ
+lengths p = length (p .types) ∷ length (p .constants) ∷ length (p .overrides) ∷ length (p .globals) ∷ length (p .expressions) ∷ []
+
+pub record Outcome : Type 0 where
+  pub number : ℕ
+  pub area : ℕ
+  pub record′ : ℕ
+  pub counts : List ℕ
+  pub areas : Areas
+  pub maps : Maps
+
+-- "The counts are the kept records of areas 0 to 6."
+unfoldable pub keptCounts : Areas → List Elem → List ℕ
+keptCounts s m =
+    rank (isKept m types) (size s types)
+    ∷ rank (isKept m constants) (size s constants)
+    ∷ rank (isKept m overrides) (size s overrides)
+    ∷ rank (isKept m globals) (size s globals)
+    ∷ rank (isKept m expressions) (size s expressions)
+    ∷ length (runsUpTo s m types (size s types))
+    ∷ length (runsUpTo s m expressions (size s expressions))
+    ∷ []
+
+-- "Accepted: number, area and record are 0."
+unfoldable pub compacted : Areas → Maps → List Elem → Outcome
+compacted s p m =
+    record {
+      number = 0;
+      area = 0;
+      record′ = 0;
+      counts = keptCounts s m;
+      areas = areasAfter s m;
+      maps = record {
+        types = mapAfter s m types (p .types);
+        constants = mapAfter s m constants (p .constants);
+        overrides = mapAfter s m overrides (p .overrides);
+        globals = mapAfter s m globals (p .globals);
+        expressions = mapAfter s m expressions (p .expressions);
+      };
+    }
+
+-- "It reports number, area, record. [..] The seven kept counts are 0. No area or map changes."
+unfoldable pub outcome : Areas → Maps → Bool → Outcome
+outcome s p keep =
+    elim (check s (lengths p)) [
+      | accepted ↦ compacted s p (kept s keep)
+      | refused nr a h ↦ record { number = nr; area = a; record′ = h; counts = 0 ∷ 0 ∷ 0 ∷ 0 ∷ 0 ∷ 0 ∷ 0 ∷ []; areas = s; maps = p }
+    ]

@@ -1,0 +1,105 @@
+-- Document 01, "The eight areas": what each word of a record is. One table serves the references, checks 4 and 6, and the adjusting.
+-- Assumes nothing.
+use mathlib.Core.Bool.{cond}
+use mathlib.Core.List.{List, [], _∷_, _++_}
+use Prim.Native.Nat.{ℕ, zero, suc}
+use lib.ListN.{getD}
+use lib.Dec.{eqb}
+use Rattle.definitions.specs.Areas.{Arena, types, constants, overrides, globals, expressions, Areas, word}
+
+-- what a word of a record is
+pub data Slot : Type 0 where
+  unused : Slot  -- N
+  free : Slot  -- any word, carried along: a tag
+  below : ℕ → Slot  -- a kind, a flag or a form: a word below this number
+  must : Arena → Slot  -- a handle of that arena
+  may : Arena → Slot  -- "?": a handle of that arena, or N
+  start count : Slot  -- a run of the arena's pool
+
+-- "Slots fill from the first in this order; slots not named [..] are N."
+unfoldable pub fill : ℕ → List Slot → List Slot
+fill zero l = []
+fill (suc n) [] = unused ∷ fill n []
+fill (suc n) (x ∷ l) = x ∷ fill n l
+
+-- a and b, by the type's kind
+unfoldable pub typeSlots : List (List Slot)
+typeSlots =
+    (unused ∷ unused ∷ [])  -- 0 no handles (a and b are N)
+    ∷ (must types ∷ unused ∷ [])  -- 1 base a (b is N)
+    ∷ (must types ∷ must overrides ∷ [])  -- 2 base a, sized by override b
+    ∷ (start ∷ count ∷ [])  -- 3 a run of the member pool, start a, count b
+    ∷ []
+
+-- one, two, three expressions
+abbrev one : List Slot
+one = must expressions ∷ []
+
+abbrev two : List Slot
+two = must expressions ∷ one
+
+abbrev three : List Slot
+three = must expressions ∷ two
+
+-- "Check 4 passes over them and doesn't read their slots."
+abbrev nine : List Slot
+nine = free ∷ free ∷ free ∷ free ∷ free ∷ free ∷ free ∷ free ∷ free ∷ []
+
+-- x and y of an `ImageSample`, by its level form
+unfoldable pub levelSlots : List (List Slot)
+levelSlots =
+    (unused ∷ unused ∷ [])  -- 0 auto
+    ∷ (unused ∷ unused ∷ [])  -- 1 zero
+    ∷ (must expressions ∷ unused ∷ [])  -- 2 exact x
+    ∷ (must expressions ∷ unused ∷ [])  -- 3 bias x
+    ∷ (must expressions ∷ must expressions ∷ [])  -- 4 gradient x y
+    ∷ []
+
+-- the level of an `ImageQuery`, by its form
+unfoldable pub querySlots : ℕ → List Slot
+querySlots zero = may expressions ∷ []  -- 0 size
+querySlots (suc n) = []  -- 1 to 3 the counts, which have no level
+
+-- an expression's form: slot 6 of an `ImageSample`, slot 2 of an `ImageQuery`
+unfoldable pub formOf : (ℕ → ℕ) → ℕ
+formOf f = cond (eqb (f 0) 15) (f 6) (cond (eqb (f 0) 17) (f 2) 0)
+
+-- "the 34 variants in the order of the match in `trace_expression`": the named slots, by the kind
+unfoldable pub exprSlots : ℕ → List (List Slot)
+exprSlots form =
+    [] ∷ [] ∷ [] ∷ [] ∷ []  -- 0 `Literal` 1 `FunctionArgument` 2 `LocalVariable` 3 `SubgroupBallotResult` 4 `RayQueryProceedResult`: no slot
+    ∷ (must constants ∷ [])  -- 5 `Constant`
+    ∷ (must overrides ∷ [])  -- 6 `Override`
+    ∷ (must types ∷ [])  -- 7 `ZeroValue`
+    ∷ (must types ∷ start ∷ count ∷ [])  -- 8 `Compose`: type, pool start, pool count
+    ∷ two  -- 9 `Access`
+    ∷ one ∷ one ∷ one  -- 10 `AccessIndex` 11 `Splat` 12 `Swizzle`
+    ∷ nine  -- 13 `GlobalVariable`: not at module scope
+    ∷ one  -- 14 `Load`
+    ∷ (three ++ (may expressions ∷ may expressions ∷ below 5 ∷ []) ++ getD levelSlots form [] ++ (may expressions ∷ []))  -- 15 `ImageSample`
+    ∷ (two ++ (may expressions ∷ may expressions ∷ may expressions ∷ []))  -- 16 `ImageLoad`
+    ∷ (one ++ (below 4 ∷ []) ++ querySlots form)  -- 17 `ImageQuery`
+    ∷ one ∷ one  -- 18 `RayQueryVertexPositions` 19 `Unary`
+    ∷ two  -- 20 `Binary`
+    ∷ three  -- 21 `Select`
+    ∷ one ∷ one  -- 22 `Derivative` 23 `Relational`
+    ∷ (one ++ (may expressions ∷ may expressions ∷ may expressions ∷ []))  -- 24 `Math`
+    ∷ one ∷ one  -- 25 `As` 26 `ArrayLength`
+    ∷ nine  -- 27 `CallResult`: not at module scope
+    ∷ (must types ∷ []) ∷ (must types ∷ []) ∷ (must types ∷ [])  -- 28 `AtomicResult` 29 `WorkGroupUniformLoadResult` 30 `SubgroupOperationResult`
+    ∷ one  -- 31 `RayQueryGetIntersection`
+    ∷ two  -- 32 `CooperativeLoad`
+    ∷ three  -- 33 `CooperativeMultiplyAdd`
+    ∷ []
+
+-- what each word of a record is, by its words
+unfoldable pub slots : Arena → (ℕ → ℕ) → List Slot
+slots types f = below 4 ∷ below 4 ∷ fill 2 (getD typeSlots (f 0) []) ++ (free ∷ [])
+slots constants f = below 2 ∷ must types ∷ must expressions ∷ free ∷ []
+slots overrides f = below 2 ∷ must types ∷ may expressions ∷ free ∷ []
+slots globals f = must types ∷ may expressions ∷ free ∷ []
+slots expressions f = below 34 ∷ fill 9 (getD (exprSlots (formOf f)) (f 0) []) ++ (free ∷ [])
+
+-- what each word of record h is
+unfoldable pub layout : Areas → Arena → ℕ → List Slot
+layout s a h = slots a (word s a h)
