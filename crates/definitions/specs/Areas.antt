@@ -87,9 +87,13 @@ recordsOf s a = lengthOf s a / getD widths a 1
 unfoldable pub size : Areas → Arena → ℕ
 size s a = length (words s a) / width a
 
--- word k of record h: "A handle is a record's place in its area, from 0."
+-- word k of record h in the words of an arena: "A handle is a record's place in its area, from 0."
+abbrev pub wordOf : Words → Arena → ℕ → ℕ → ℕ
+wordOf ws a h k = getD ws (h * width a + k) 0
+
+-- and in a module
 unfoldable pub word : Areas → Arena → ℕ → ℕ → ℕ
-word s a h k = getD (words s a) (h * width a + k) 0
+word s a h k = wordOf (words s a) a h k
 
 -- the pool that an arena's runs lie in: members of types, components of expressions
 unfoldable pub pool : Areas → Arena → Words
