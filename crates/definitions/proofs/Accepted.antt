@@ -1,13 +1,11 @@
 -- What a passed check says of each record.
 -- Assumes nothing.
-use mathlib.Core.Path.{_≡_, refl, sym, ap, subst, _∙_}
-use mathlib.Core.Bool.{Bool, true, false, _&&_, cond}
-use mathlib.Core.Logic.{_⊎_, inl, inr, ⊎-elim}
-use mathlib.Core.List.{List, [], _∷_, _++_, map}
-use Prim.Native.Nat.{ℕ, zero, suc, _+_, _/_, _%_, _≤_, _<_, suc-le-suc}
+use mathlib.Core.Path.{sym, subst, _∙_}
+use mathlib.Core.Bool.{Bool, true, false, cond}
+use mathlib.Core.List.{List, [], _∷_}
+use Prim.Native.Nat.{ℕ, zero, suc, _+_, _%_, _≤_, _<_, suc-le-suc}
 use native.Mathlib.Nat.{add-zero, zero-add, suc-add, add-suc, zero-lt-suc, le-trans, not-suc-le-zero, le-of-suc-le-suc}
-use native.Mathlib.Omega.{arith}
-use lib.Dec.{T, eqb, ltb, leb, ltb→lt, leb→le, lt→ltb, lit<, lit≤}
+use lib.Dec.{T, eqb, ltb, leb, leb→le, lit<, lit≤}
 use lib.ListN.{length, getD}
 use Rattle.definitions.specs.Areas.{Areas, Arena, N, allWords, at, constants, expressions, globals, lengthOf, recordsOf, limits, mentionCount, mentionWord, number, overrides, pool, size, types, width, widths, words}
 use Rattle.definitions.specs.Roots.{mention}

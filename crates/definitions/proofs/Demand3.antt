@@ -1,46 +1,58 @@
 -- Demand 3 in one statement, over the definitions of `specs/`.
 -- Assumes nothing.
-use mathlib.Core.Path.{_≡_, refl, sym, ap, subst, _∙_}
+use mathlib.Core.Path.{_≡_, _∙_}
 use mathlib.Core.Bool.{Bool, true, false}
-use mathlib.Core.Logic.{_⊎_, inl, inr, ⊎-elim}
-use mathlib.Core.List.{List, [], _∷_, _++_, map}
-use Prim.Native.Nat.{ℕ, zero, suc, _≤_, _<_}
+use mathlib.Core.Logic.{_⊎_, ⊎-elim}
+use mathlib.Core.List.{List, [], map}
+use Prim.Native.Nat.{ℕ, _<_}
 use lib.Dec.{T}
 use Rattle.definitions.specs.Areas.{Areas, Arena, Elem, at, size}
 use Rattle.definitions.specs.References.{references}
 use Rattle.definitions.specs.Roots.{commonRoots, moreRoots, roots}
-use Rattle.definitions.specs.Order.{order, wellOrdered}
-use Rattle.definitions.specs.Sweep.{kept, sweep}
+use Rattle.definitions.specs.Order.{order}
+use Rattle.definitions.specs.Sweep.{kept}
 use Rattle.definitions.specs.Refusals.{check, check3, inside, passes}
 use Rattle.definitions.specs.Numbering.{isKept, moved, place, rank}
 use Rattle.definitions.specs.Records.{keptAreas}
-use Rattle.definitions.proofs.Least.{_∈_, none-in, append-left, append-right, append-cases, Within, Closed, Reach, reached-in, sweep-reached}
-use Rattle.definitions.proofs.Accepted.{Sound, Accepted, facts, accepts}
-use Rattle.definitions.proofs.Kept.{Inside, inside-lt, Plain, OrderedOn, all-ordered, kept-roots, kept-inside, kept-closed, kept-least}
-use Rattle.definitions.proofs.Places.{place-kept, place-mono, rank-below, Placed, no-gap}
+use Rattle.definitions.specs.Outcome.{Maps, lengths, outcome}
+use Rattle.definitions.proofs.Least.{_∈_, none-in, append-left, append-cases, Within, Closed, Reach, reached-in, sweep-reached}
+use Rattle.definitions.proofs.Accepted.{Sound, facts, accepts}
+use Rattle.definitions.proofs.Kept.{inside-lt, OrderedOn, all-ordered, kept-roots, kept-inside, kept-closed, kept-least}
+use Rattle.definitions.proofs.Places.{place-kept, place-mono, rank-below, no-gap}
 use Rattle.definitions.proofs.Reading.{references-after}
-use Rattle.definitions.proofs.Twice.{accepted-again, drops-nothing}
-use Rattle.definitions.proofs.Whole.{second-pass}
+use Rattle.definitions.proofs.SecondPass.{accepted-again, drops-nothing}
+use Rattle.definitions.proofs.Identity.{second-pass, outcome-self}
 
+-- demand 3 of a module and a flag, sentence by sentence
 pub record Demand3 (s : Areas) (keep : Bool) : Type 1 where
-  -- what the sweep keeps are elements of the module, and hold the roots and everything they refer to
+  -- "what the sweep keeps" are elements of the module
   pub elements : Within (kept s keep) (λ x. T (inside s x))
+  -- "holds the roots"
   pub holds-roots : Within (roots s keep) (λ x. x ∈ kept s keep)
+  -- "and all that its members refer to"
   pub closed : Closed s (λ x. x ∈ kept s keep)
-  -- and lie inside every other such set
+  -- "and lies inside every other such set"
   pub least : (S : Elem → Type 0) → Closed s S → Within (roots s keep) S → Within (kept s keep) S
-  -- numbered from 0, without a gap, in their old order
+  -- "Kept elements are numbered from 0": each number is below the count
   pub below-count : (a : Arena) (h : ℕ) → at a h ∈ kept s keep → place (isKept (kept s keep) a) h < rank (isKept (kept s keep) a) (size s a)
-  pub in-order : (a : Arena) (h k : ℕ) → at a h ∈ kept s keep → at a k ∈ kept s keep → h < k → place (isKept (kept s keep) a) h < place (isKept (kept s keep) a) k
+  -- "without a gap": each number below the count is some kept element's
   pub without-gap : (a : Arena) (i : ℕ) → i < rank (isKept (kept s keep) a) (size s a)
       → (h : ℕ) × (at a h ∈ kept s keep) × (place (isKept (kept s keep) a) h ≡ i)
-  -- each kept record refers to the new places of what it referred to before
+  -- "in their old order"
+  pub in-order : (a : Arena) (h k : ℕ) → at a h ∈ kept s keep → at a k ∈ kept s keep → h < k → place (isKept (kept s keep) a) h < place (isKept (kept s keep) a) k
+  -- "each kept record refers to the new places"
   pub refers : (x : Elem) → x ∈ kept s keep → references (keptAreas s (kept s keep)) (moved (kept s keep) x) ≡ map (moved (kept s keep)) (references s x)
-  -- a second pass is accepted wherever the maps have room, drops nothing and changes nothing
+  -- "a second pass with the same flag" is accepted wherever the maps have room,
   pub again-accepted : (maps : List ℕ) → T (passes (check3 (keptAreas s (kept s keep)) maps)) → T (passes (check (keptAreas s (kept s keep)) maps))
+  -- "drops nothing"
   pub again-keeps : (x : Elem) → T (inside (keptAreas s (kept s keep)) x) → x ∈ kept (keptAreas s (kept s keep)) keep
+  -- "and changes no record or mention"
   pub again-same : keptAreas (keptAreas s (kept s keep)) (kept (keptAreas s (kept s keep)) keep) ≡ keptAreas s (kept s keep)
+  -- so that, given what was kept, it leaves every area as it was
+  pub again-outcome : (p : Maps) → T (passes (check3 (keptAreas s (kept s keep)) (lengths p)))
+      → outcome (keptAreas s (kept s keep)) p keep .areas ≡ keptAreas s (kept s keep)
 
+-- a kept record's references, at its new place
 moved-refers : (s : Areas) (c : Sound s) (keep : Bool) → OrderedOn s (kept s keep) → (x : Elem) → x ∈ kept s keep
     → references (keptAreas s (kept s keep)) (moved (kept s keep) x) ≡ map (moved (kept s keep)) (references s x)
 unfolding moved
@@ -62,36 +74,38 @@ demand3-of s keep c o =
           let q = no-gap (kept s keep) a (size s a) i l in
           (q .from, q .from-kept, place-kept (kept s keep) a (q .from) (q .from-kept) ∙ q .from-rank);
       refers = moved-refers s c keep o;
-      again-accepted = λ room. accepts (keptAreas s (kept s keep)) room (accepted-again s c keep o);
+      again-accepted = λ maps. accepts (keptAreas s (kept s keep)) maps (accepted-again s c keep o);
       again-keeps = drops-nothing s c keep o;
       again-same = second-pass s c keep o;
+      again-outcome = λ p room.
+          outcome-self (keptAreas s (kept s keep)) p keep (accepts (keptAreas s (kept s keep)) (lengths p) (accepted-again s c keep o) room) (second-pass s c keep o);
     }
 
+-- so demand 3 holds of every accepted module, for either flag
 pub demand3 : (s : Areas) (maps : List ℕ) (keep : Bool) → T (passes (check s maps)) → Demand3 s keep
 demand3 s maps keep t =
     let c = facts s maps t in
     demand3-of s keep (c .sound) (all-ordered s c (kept s keep) (kept-inside s (c .sound) keep))
 
--- ---- what later asks lean on
+-- ---- what is kept, as what references lead to
 
--- Ask 5: where all that the sweep keeps is well ordered, it keeps exactly what references lead to from the roots
-pub kept-reach : (s : Areas) (keep : Bool) → Sound s → OrderedOn s (kept s keep) → (x : Elem) → Reach s (roots s keep) x → x ∈ kept s keep
-kept-reach s keep c o = reached-in s (roots s keep) (kept s keep) (kept-closed s c keep o) (kept-roots s keep)
+-- what the sweep keeps of an accepted module is exactly what references lead to from the roots
+pub kept-reach : (s : Areas) (maps : List ℕ) (keep : Bool) → T (passes (check s maps)) → (x : Elem) → Reach s (roots s keep) x → x ∈ kept s keep
+kept-reach s maps keep t = reached-in s (roots s keep) (kept s keep) (demand3 s maps keep t .closed) (kept-roots s keep)
 
 pub reach-kept : (s : Areas) (keep : Bool) (x : Elem) → x ∈ kept s keep → Reach s (roots s keep) x
 unfolding kept
 reach-kept s keep = sweep-reached s (roots s keep) (order s)
 
--- so a reachable element is badly ordered exactly when a kept one is: this half from a test over what is kept
-pub ordered-reach : (s : Areas) (keep : Bool) → Sound s → OrderedOn s (kept s keep) → (a : Arena) (h : ℕ) → Plain (at a h)
-    → Reach s (roots s keep) (at a h) → T (wellOrdered s a h)
-ordered-reach s keep c o a h p r = o a h p (kept-reach s keep c o (at a h) r)
+-- ---- the two flags
 
--- Ask 14: of two sets of roots, the larger keeps all that the smaller keeps
-pub yes-keeps : (s : Areas) → Sound s → OrderedOn s (kept s true) → (x : Elem) → x ∈ kept s false → x ∈ kept s true
+-- the roots under No are roots under Yes
+fewer-roots : (s : Areas) → Within (roots s false) (λ x. x ∈ roots s true)
 unfolding roots moreRoots
-yes-keeps s c o =
-    kept-least s false (λ x. x ∈ kept s true) (kept-closed s c true o)
-    (λ x r.
-    ⊎-elim (λ u. kept-roots s true x (append-left x (commonRoots s) (moreRoots s true) u)) (λ u. absurd (none-in x u))
-    (append-cases x (commonRoots s) [] r))
+fewer-roots s x r =
+    ⊎-elim (λ u. append-left x (commonRoots s) (moreRoots s true) u) (λ u. absurd (none-in x u)) (append-cases x (commonRoots s) [] r)
+
+-- what is kept under No is kept under Yes
+pub yes-keeps : (s : Areas) (maps : List ℕ) → T (passes (check s maps)) → Within (kept s false) (λ x. x ∈ kept s true)
+yes-keeps s maps t =
+    kept-least s false (λ x. x ∈ kept s true) (demand3 s maps true t .closed) (λ x r. kept-roots s true x (fewer-roots s x r))

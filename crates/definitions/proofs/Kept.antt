@@ -1,13 +1,13 @@
 -- Demand 3, of the module's own elements: what the sweep keeps of an accepted module is the least set that holds the roots and all that its members refer to.
 -- Assumes nothing.
-use mathlib.Core.Path.{_≡_, refl, sym, ap, subst, _∙_}
-use mathlib.Core.Bool.{Bool, true, false, _&&_, cond}
-use mathlib.Core.Logic.{_⊎_, inl, inr, ⊎-elim}
+use mathlib.Core.Path.{_≡_, refl, sym, subst}
+use mathlib.Core.Bool.{Bool, true, false, cond}
+use mathlib.Core.Logic.{_⊎_, ⊎-elim}
 use mathlib.Core.List.{List, [], _∷_, _++_, map}
-use Prim.Native.Nat.{ℕ, zero, suc, _+_, _-_, _≤_, _<_, zero-le, min, max}
-use native.Mathlib.Nat.{le-refl, le-trans, not-suc-le-zero, le-of-suc-le-suc}
+use Prim.Native.Nat.{ℕ, zero, suc, _+_, _-_, _≤_, _<_}
+use native.Mathlib.Nat.{le-refl, le-trans}
 use native.Mathlib.Omega.{arith}
-use lib.Dec.{T, eqb, ltb, leb, ltb→lt, leb→le, lt→ltb, eqb-refl}
+use lib.Dec.{T, eqb, ltb→lt, leb→le, lt→ltb}
 use lib.ListN.{getD}
 use borrow.Author.Tests.{eqb-true, eqb-false, eq-eqb, ne-eqb}
 use Rattle.definitions.specs.Lists.{all, any, countUp, select}
@@ -18,9 +18,9 @@ use Rattle.definitions.specs.Roots.{commonRoots, isNamed, mention, moreR
 use Rattle.definitions.specs.Order.{behind, later, maxDep, onePast, order, sizedBy, wellOrdered, withBehind}
 use Rattle.definitions.specs.Sweep.{kept, sweep, visit}
 use Rattle.definitions.specs.Refusals.{every, held, heldAt, inside}
-use Rattle.definitions.proofs.Least.{_∈_, or-cases, and-left, and-right, same-eq, here, there, cons-cases, none-in, append-left, append-right, append-cases, Within, Sorted, touched-self, touched-behind, touched-cases, Behind, reached, visit-cases, visit-old, visit-new, sweep-old, Closed, behind-refers, touched-within, sweep-within, sweep-closed}
+use Rattle.definitions.proofs.Least.{_∈_, and-left, and-right, cons-cases, none-in, append-cases, Within, Sorted, touched-self, touched-behind, touched-cases, reached, visit-cases, visit-old, visit-new, sweep-old, Closed, touched-within, sweep-within, sweep-closed}
 use Rattle.definitions.proofs.Accepted.{Sound, Accepted}
-use Rattle.definitions.proofs.Tandem.{Among, visits-among, Before, asym, past-mono, visits-sorted, visits-types, visits-expressions}
+use Rattle.definitions.proofs.Tandem.{Among, visits-among, Before, asym, visits-sorted, visits-types, visits-expressions}
 
 -- a type or an expression: what is visited
 abbrev pub Plain : Elem → Type 0

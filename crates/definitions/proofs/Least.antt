@@ -1,10 +1,9 @@
 -- The sweep keeps the least set that holds the roots and all that its members refer to: what does not look at how scanRecords are read.
 -- Assumes nothing.
-use mathlib.Core.Path.{_≡_, refl, sym, ap, ap₂, _∙_, subst}
+use mathlib.Core.Path.{_≡_, refl, ap₂, subst}
 use mathlib.Core.Bool.{Bool, true, false, _&&_, _||_, cond}
 use mathlib.Core.Logic.{_⊎_, inl, inr, ⊎-elim}
 use mathlib.Core.List.{List, [], _∷_, _++_}
-use Prim.Native.Nat.{ℕ}
 use lib.Dec.{T, eqb, eqb→eq, eqb-refl}
 use Rattle.definitions.specs.Areas.{Areas, Arena, Elem, at, constants, expressions, globals, number, overrides, same, types}
 use Rattle.definitions.specs.References.{references}

@@ -1,10 +1,10 @@
 -- Kept elements are numbered from 0 without a gap in their old order.
 -- Assumes nothing.
-use mathlib.Core.Path.{_≡_, refl, sym, ap, subst, _∙_}
+use mathlib.Core.Path.{_≡_, refl, subst}
 use mathlib.Core.Bool.{Bool, true, false, cond}
 use mathlib.Core.List.{List}
 use Prim.Native.Nat.{ℕ, zero, suc, _+_, _≤_, _<_}
-use native.Mathlib.Nat.{le-refl, le-trans}
+use native.Mathlib.Nat.{le-refl}
 use native.Mathlib.Numerals.{add-one}
 use native.Mathlib.Omega.{arith}
 use lib.Dec.{T}
@@ -12,8 +12,18 @@ use Rattle.definitions.specs.Lists.{total}
 use Rattle.definitions.specs.Areas.{Arena, Elem, N, at}
 use Rattle.definitions.specs.Sweep.{has}
 use Rattle.definitions.specs.Numbering.{isKept, place, rank}
-use Rattle.definitions.proofs.ListLaws.{total-mono, total-share, Ranked, unrank}
+use Rattle.definitions.proofs.ListLaws.{total-mono, total-share, unrank}
 use Rattle.definitions.proofs.Least.{_∈_}
+
+-- no more of the first h records pass than there are
+pub rank-le : (p : ℕ → Bool) (h : ℕ) → rank p h ≤ h
+unfolding rank total
+rank-le p zero = le-refl zero
+rank-le p (suc h) = go (p h) (rank-le p h)
+  where
+    go : (b : Bool) → rank p h ≤ h → cond b (rank p h + 1) (rank p h) ≤ suc h
+    go true l = omega arith
+    go false l = omega arith
 
 module _ (m : List Elem) (a : Arena) where
   pub place-kept : (h : ℕ) → at a h ∈ m → place (isKept m a) h ≡ rank (isKept m a) h
@@ -39,15 +49,6 @@ module _ (m : List Elem) (a : Arena) where
   pub rank-below : (h k : ℕ) → at a h ∈ m → h < k → rank (isKept m a) h < rank (isKept m a) k
   unfolding rank
   rank-below h k t l = subst (λ j. j ≤ rank (isKept m a) k) (add-one (rank (isKept m a) h)) (total-share (isKept m a) (λ _. 1) h k t l)
-
-  pub rank-le : (h : ℕ) → rank (isKept m a) h ≤ h
-  unfolding rank total
-  rank-le zero = le-refl zero
-  rank-le (suc h) = go (has m (at a h)) (rank-le h)
-    where
-      go : (b : Bool) → rank (isKept m a) h ≤ h → cond b (rank (isKept m a) h + 1) (rank (isKept m a) h) ≤ suc h
-      go true l = omega arith
-      go false l = omega arith
 
   -- the old order
   pub place-mono : (h k : ℕ) → at a h ∈ m → at a k ∈ m → h < k → place (isKept m a) h < place (isKept m a) k

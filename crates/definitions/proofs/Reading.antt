@@ -1,11 +1,10 @@
 -- What the compacted module's scanRecords, runs and mentions read as.
 -- Assumes nothing.
 use mathlib.Core.Path.{_≡_, refl, sym, ap, ap₂, subst, _∙_}
-use mathlib.Core.Bool.{Bool, true, false, cond, _&&_}
-use mathlib.Core.Logic.{_⊎_, inl, inr, ⊎-elim}
-use mathlib.Core.List.{List, [], _∷_, _++_, map, append-nil}
-use Prim.Native.Nat.{ℕ, zero, suc, _+_, _*_, _/_, _-_, _≤_, _<_, suc-le-suc, min}
-use native.Mathlib.Nat.{le-refl, le-trans, not-suc-le-zero, le-of-suc-le-suc, mul-div-cancel, zero-lt-suc, add-suc, suc-add, zero-add, add-zero}
+use mathlib.Core.Bool.{Bool, true, false, cond}
+use mathlib.Core.List.{List, [], _∷_, _++_, map}
+use Prim.Native.Nat.{ℕ, zero, suc, _+_, _*_, _/_, _-_, _≤_, _<_, suc-le-suc}
+use native.Mathlib.Nat.{le-trans, not-suc-le-zero, le-of-suc-le-suc, mul-div-cancel, zero-lt-suc, add-suc, suc-add, zero-add, add-zero}
 use native.Mathlib.Omega.{arith}
 use lib.Dec.{T, eqb, leb, eqb→eq, leb→le, lit<}
 use lib.ListN.{length, getD, take, drop, length-append, length-take, length-drop, length-map}
@@ -14,12 +13,11 @@ use Rattle.definitions.specs.Lists.{gather, total}
 use Rattle.definitions.specs.Areas.{Areas, Arena, Elem, N, Words, at, constants, expressions, globals, overrides, pool, size, types, width, word, words}
 use Rattle.definitions.specs.Slots.{Slot, below, count, exprSlots, fill, formOf, free, layout, may, must, slots, start, typeSlots, unused}
 use Rattle.definitions.specs.References.{hasRun, namedBy, namedFrom, references, run, span}
-use Rattle.definitions.specs.Sweep.{has}
 use Rattle.definitions.specs.Refusals.{every, runsBefore, shaped, shapedAt}
 use Rattle.definitions.specs.Numbering.{isKept, moved, place, rank}
 use Rattle.definitions.specs.Records.{adjusted, adjustedFrom, keptAreas, recordAfter, recordsUpTo, runsUpTo, startAfter}
 use Rattle.definitions.proofs.ListLaws.{total-cong, total-scale, length-gather, gather-part, gather-word}
-use Rattle.definitions.proofs.Least.{_∈_, and-left, and-right, Within, Closed, here, there, append-left, append-right}
+use Rattle.definitions.proofs.Least.{_∈_, and-left, and-right, Within, Closed, here, append-left, append-right}
 use Rattle.definitions.proofs.Accepted.{Sound, size-few}
 use Rattle.definitions.proofs.Kept.{SlotHolds, EachSlot, Inside, inside-lt, lt-inside}
 use Rattle.definitions.proofs.Places.{place-kept, place-dropped, rank-le, rank-below}
@@ -341,7 +339,7 @@ module _ (s : Areas) (m : List Elem) where
       pub place-few : (a : Arena) (h : ℕ) → at a h ∈ m → place (isKept m a) h ≡ N → ⊥
       place-few a h i e =
           let q : rank (isKept m a) h ≡ N = sym (place-kept m a h i) ∙ e in
-          let r : rank (isKept m a) h ≤ h = rank-le m a h in
+          let r : rank (isKept m a) h ≤ h = rank-le (isKept m a) h in
           let k : h < N = kept-few a h i in
           omega arith
 

@@ -1,17 +1,15 @@
 -- The visiting order: each is visited once, and the tandem with dep visits a referrer before what it refers to.
 -- Assumes nothing.
 use mathlib.Core.Path.{_≡_, refl, sym, ap, ap₂, subst, _∙_}
-use mathlib.Core.Bool.{Bool, true, false}
 use mathlib.Core.Logic.{_⊎_, inl, inr, ⊎-elim}
-use mathlib.Core.List.{List, [], _∷_, _++_}
-use Prim.Native.Nat.{ℕ, zero, suc, _+_, _-_, _≤_, _<_, zero-le, min, max}
+use mathlib.Core.List.{_∷_}
+use Prim.Native.Nat.{ℕ, zero, suc, _+_, _-_, _≤_, _<_, zero-le, min}
 use native.Mathlib.Nat.{zero-add, le-refl, le-trans, le-of-suc-le-suc, not-suc-le-zero, eq-or-lt-of-le}
 use native.Mathlib.Decide.{decLe}
 use native.Mathlib.Omega.{arith}
-use lib.Dec.{T}
 use lib.ListN.{length, length-append}
 use Rattle.definitions.specs.Areas.{Areas, Elem, at, constants, expressions, globals, overrides, types}
-use Rattle.definitions.specs.Order.{falling, maxDep, order, visits}
+use Rattle.definitions.specs.Order.{falling, maxDep, visits}
 use Rattle.definitions.proofs.Least.{_∈_, here, there, cons-cases, none-in, append-left, append-right, append-cases, Within, Sorted, sorted-append}
 
 le-or-lt : (a b : ℕ) → (a ≤ b) ⊎ (b < a)

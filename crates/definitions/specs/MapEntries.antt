@@ -1,8 +1,8 @@
 -- Document 01, "Refusal numbers", the map entries: lookup, adjust and range over any map. In the Rust: `HandleMap::get`, `adjust`, `adjust_range`
 -- Assumes nothing.
-use mathlib.Core.Bool.{Bool, true, false, _&&_, cond}
-use mathlib.Core.List.{List, [], _∷_}
-use Prim.Native.Nat.{ℕ, zero, suc, _+_, _-_}
+use mathlib.Core.Bool.{_&&_, cond}
+use mathlib.Core.List.{[], _∷_}
+use Prim.Native.Nat.{ℕ, _+_, _-_}
 use lib.ListN.{length, getD, take, drop}
 use lib.Dec.{eqb, ltb, leb}
 use Rattle.definitions.specs.Areas.{Words, N}

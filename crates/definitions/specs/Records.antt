@@ -1,6 +1,5 @@
 -- Document 01, "Refusal numbers", the accepted module: records, pools, mentions and fill after. Each is given for the first h records, by h.
 -- Assumes nothing.
-use mathlib.Core.Bool.{Bool}
 use mathlib.Core.List.{List, [], _∷_, _++_, map}
 use Prim.Native.Nat.{ℕ, suc, _-_}
 use lib.ListN.{length, replicate}

@@ -1,28 +1,27 @@
 -- Demand 3, the second pass: it is accepted and drops nothing.
 -- Assumes nothing.
-use mathlib.Core.Path.{_≡_, refl, sym, ap, ap₂, subst, _∙_}
-use mathlib.Core.Bool.{Bool, true, false, cond, _&&_, not}
-use mathlib.Core.Logic.{_⊎_, inl, inr, ⊎-elim}
+use mathlib.Core.Path.{_≡_, refl, sym, subst}
+use mathlib.Core.Bool.{Bool, true, false, cond}
+use mathlib.Core.Logic.{_⊎_, ⊎-elim}
 use mathlib.Core.List.{List, [], _∷_, _++_, map}
-use Prim.Native.Nat.{ℕ, zero, suc, _+_, _*_, _/_, _%_, _-_, _≤_, _<_, suc-le-suc, zero-le}
-use native.Mathlib.Nat.{le-refl, le-trans, not-suc-le-zero, le-of-suc-le-suc, eq-or-lt-of-le, zero-add, add-zero}
+use Prim.Native.Nat.{ℕ, zero, suc, _+_, _-_, _≤_, _<_, zero-le}
+use native.Mathlib.Nat.{eq-or-lt-of-le, zero-add}
 use native.Mathlib.Omega.{arith}
-use lib.Dec.{T, eqb, lit<}
-use lib.ListN.{length, getD}
+use lib.Dec.{T, lit<}
 use Rattle.definitions.specs.Lists.{any, countUp, select}
 use Rattle.definitions.specs.Areas.{Areas, Arena, Elem, at, constants, globals, mentionCount, overrides, size, types, width, word}
 use Rattle.definitions.specs.Slots.{below, layout, slots}
 use Rattle.definitions.specs.References.{references}
 use Rattle.definitions.specs.Roots.{commonRoots, isAbstract, isNamed, mention, moreRoots, namedOverride, rootConstant, roots, those}
 use Rattle.definitions.specs.Sweep.{kept}
-use Rattle.definitions.specs.Numbering.{isKept, moved, place, rank}
+use Rattle.definitions.specs.Numbering.{isKept, moved, rank}
 use Rattle.definitions.specs.Records.{adjusted}
-use Rattle.definitions.proofs.Least.{_∈_, and-left, and-right, Within, Closed, here, there, cons-cases, none-in, append-left, append-right, append-cases}
+use Rattle.definitions.proofs.Least.{_∈_, Within, Closed, here, there, cons-cases, none-in, append-left, append-right, append-cases}
 use Rattle.definitions.proofs.Accepted.{Sound, Accepted}
-use Rattle.definitions.proofs.Kept.{Inside, inside-lt, lt-inside, EachSlot, map-within, each-map, count-below, OrderedOn, all-ordered, kept-roots, kept-inside, kept-closed, kept-least}
-use Rattle.definitions.proofs.Places.{place-kept, rank-below, Placed, no-gap}
+use Rattle.definitions.proofs.Kept.{Inside, inside-lt, map-within, each-map, count-below, OrderedOn, all-ordered, kept-roots, kept-inside, kept-closed, kept-least}
+use Rattle.definitions.proofs.Places.{place-kept, rank-below, no-gap}
 use Rattle.definitions.proofs.Reading.{after, size-after, word-after, word-stays, references-after}
-use Rattle.definitions.proofs.Again.{both, moved-kept, kept-slots, mentionCount-after, mention-after, accepted-after}
+use Rattle.definitions.proofs.AcceptedAfter.{moved-kept, kept-slots, mentionCount-after, mention-after, accepted-after}
 
 in-map : (f : Elem → Elem) (x : Elem) (l : List Elem) → x ∈ l → f x ∈ map f l
 in-map f x [] h = absurd (none-in x h)

@@ -1,10 +1,10 @@
 -- A pass that keeps every element of an accepted module changes nothing; so the second pass changes no record and no mention.
 -- Assumes nothing.
 use mathlib.Core.Path.{_≡_, refl, sym, ap, ap₂, subst, _∙_}
-use mathlib.Core.Bool.{Bool, true, false, cond, _&&_}
-use mathlib.Core.List.{List, [], _∷_, _++_, map}
-use Prim.Native.Nat.{ℕ, zero, suc, _+_, _*_, _/_, _%_, _-_, _≤_, _<_, suc-le-suc, zero-le}
-use native.Mathlib.Nat.{le-refl, le-trans, not-suc-le-zero, mod-lt, div-add-mod', div-lt-iff-lt-mul, add-zero, zero-add}
+use mathlib.Core.Bool.{Bool, true, false, cond}
+use mathlib.Core.List.{List, [], _∷_, _++_, map, append-nil}
+use Prim.Native.Nat.{ℕ, zero, suc, _+_, _*_, _/_, _%_, _-_, _≤_, _<_}
+use native.Mathlib.Nat.{le-refl, le-trans, mod-lt, div-add-mod', div-lt-iff-lt-mul, add-zero, zero-add}
 use native.Mathlib.Numerals.{add-one}
 use native.Mathlib.Omega.{arith}
 use lib.Dec.{T, eqb, leb, eqb→eq, lit<}
@@ -17,17 +17,19 @@ use Rattle.definitions.specs.Slots.{Slot, below, count, free, layout, ma
 use Rattle.definitions.specs.References.{hasRun, run, span}
 use Rattle.definitions.specs.Roots.{mention}
 use Rattle.definitions.specs.Sweep.{has, kept}
-use Rattle.definitions.specs.Refusals.{every, held, heldAt, inside as test, runsBefore, shaped, shapedAt}
+use Rattle.definitions.specs.Refusals.{every, held, heldAt, check, inside as test, passes, runsBefore, shaped, shapedAt}
 use Rattle.definitions.specs.Numbering.{isKept, place, rank}
-use Rattle.definitions.specs.Records.{adjusted, keptAreas, mentionAfter, runsUpTo, startAfter}
+use Rattle.definitions.specs.Outcome.{Maps, lengths, outcome, outcomeOf}
+use Rattle.definitions.specs.Records.{adjusted, areasAfter, keptAreas, padded, mentionAfter, runsUpTo, startAfter}
 use Rattle.definitions.proofs.ListLaws.{total-step}
 use Rattle.definitions.proofs.Least.{_∈_, and-left, and-right, Within, Closed}
 use Rattle.definitions.proofs.Accepted.{Sound}
 use Rattle.definitions.proofs.Kept.{Inside, inside-lt, lt-inside, inside-closed, OrderedOn, kept-inside}
-use Rattle.definitions.proofs.Places.{place-kept, place-dropped}
-use Rattle.definitions.proofs.Reading.{after, width-pos, size-after, word-after, length-after, length-layout, shaped-slot, every-at, place-none, run-eq, no-span, start-slot, run-wide}
-use Rattle.definitions.proofs.Again.{mentionWord-after, mentions-length}
-use Rattle.definitions.proofs.Twice.{accepted-again, drops-nothing}
+use Rattle.definitions.proofs.Places.{place-kept}
+use Rattle.definitions.proofs.Reading.{after, width-pos, word-after, length-after, length-layout, shaped-slot, every-at, place-none, run-eq, no-span, start-slot, run-wide}
+use Rattle.definitions.proofs.AcceptedAfter.{mentionWord-after, mentions-length}
+use Rattle.definitions.proofs.Unchanged.{outcome-accepted}
+use Rattle.definitions.proofs.SecondPass.{accepted-again, drops-nothing}
 
 multiple : (n w : ℕ) → T (eqb (n % w) 0) → n ≡ n / w * w
 multiple n w t =
@@ -214,3 +216,30 @@ pub second-pass : (s : Areas) (c : Sound s) (keep : Bool) → OrderedOn s (kept 
 second-pass s c keep o =
     whole (keptAreas s (kept s keep)) (kept (keptAreas s (kept s keep)) keep) (accepted-again s c keep o .sound)
     (kept-inside (keptAreas s (kept s keep)) (accepted-again s c keep o .sound) keep) (drops-nothing s c keep o)
+
+-- ---- and in the outcome no N is filled in
+
+padded-self : (l : Words) → padded l l ≡ l
+unfolding padded
+padded-self l = let z : length l - length l ≡ 0 = omega arith in rw z (append-nil l)
+
+areas-self : (s : Areas) (m : List Elem) → keptAreas s m ≡ s → areasAfter s m ≡ s
+unfolding areasAfter
+areas-self s m e =
+    rw e
+    (λ i.
+    record {
+      types = padded-self (s .types) i;
+      constants = padded-self (s .constants) i;
+      overrides = padded-self (s .overrides) i;
+      globals = padded-self (s .globals) i;
+      expressions = padded-self (s .expressions) i;
+      members = padded-self (s .members) i;
+      components = padded-self (s .components) i;
+      mentions = s .mentions;
+    })
+
+-- a pass that keeps every record as it is leaves every area as it was
+pub outcome-self : (s : Areas) (p : Maps) (keep : Bool) → T (passes (check s (lengths p))) → keptAreas s (kept s keep) ≡ s → outcome s p keep .areas ≡ s
+unfolding outcomeOf
+outcome-self s p keep t e = rw (outcome-accepted s p keep t) (areas-self s (kept s keep) e)

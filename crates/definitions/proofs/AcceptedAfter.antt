@@ -1,16 +1,16 @@
 -- The compacted module is accepted, a second pass keeps all of it, and changes nothing.
 -- Assumes nothing.
 use mathlib.Core.Path.{_≡_, refl, sym, ap, ap₂, subst, _∙_}
-use mathlib.Core.Bool.{Bool, true, false, cond, _&&_, not}
-use mathlib.Core.Logic.{_⊎_, inl, inr, ⊎-elim}
+use mathlib.Core.Bool.{Bool, true, false, cond, _&&_}
+use mathlib.Core.Logic.{_⊎_, ⊎-elim}
 use mathlib.Core.List.{List, [], _∷_, _++_, map}
 use Prim.Native.Nat.{ℕ, zero, suc, _+_, _*_, _/_, _%_, _-_, _≤_, _<_, suc-le-suc, zero-le}
-use native.Mathlib.Nat.{le-refl, le-trans, mul-div-cancel, mul-mod-left, mul-zero, mod-one, div-one, le-of-eq, not-suc-le-zero, le-of-suc-le-suc, zero-lt-suc, add-suc, suc-add, zero-add, add-zero}
+use native.Mathlib.Nat.{le-refl, le-trans, mul-div-cancel, mul-mod-left, mul-zero, mod-one, div-one, le-of-suc-le-suc, zero-lt-suc, add-suc, suc-add, zero-add, add-zero}
 use native.Mathlib.Numerals.{add-one}
 use native.Mathlib.Omega.{arith}
 use lib.Dec.{T, eqb, leb, ltb, eqb→eq, leb→le, eqb-refl, le→leb, lt→ltb, ltb→lt, lit<}
 use borrow.Author.Tests.{eqb-false, eqb-true, eq-eqb, ne-eqb}
-use lib.ListN.{length, getD, length-map}
+use lib.ListN.{length, getD}
 use Rattle.definitions.specs.Lists.{all, any, gather, total}
 use Rattle.definitions.specs.Areas.{recordsOf, Areas, Arena, Elem, N, Words, allWords, at, constants, expressions, globals, lengthOf, limits, mentionCount, mentionWord, numbered, overrides, pool, size, types, width, widths, word, words}
 use Rattle.definitions.specs.Slots.{Slot, below, count, fill, free, layout, may, must, slots, start, typeSlots, unused}
@@ -21,13 +21,13 @@ use Rattle.definitions.specs.Sweep.{has}
 use Rattle.definitions.specs.Refusals.{every, held, heldAt, inside as test, ofModule, runsBefore, shaped, shapedAt}
 use Rattle.definitions.specs.Numbering.{isKept, moved, place, rank}
 use Rattle.definitions.specs.Records.{adjusted, keptAreas, mentionAfter, mentionsUpTo, runsUpTo, startAfter}
-use Rattle.definitions.proofs.ListLaws.{total-share, total-mono, length-gather, gather-word, total-cong, total-scale, total-any}
-use Rattle.definitions.proofs.Least.{_∈_, and-left, and-right, Within, Closed, here, there, cons-cases, none-in, append-left, append-right, touched-self, reached, reached-within}
+use Rattle.definitions.proofs.ListLaws.{total-share, length-gather, gather-word, total-cong, total-scale, total-any}
+use Rattle.definitions.proofs.Least.{_∈_, and-left, and-right, Within, Closed, here, there, cons-cases, none-in, append-left, append-right, reached, reached-within}
 use Rattle.definitions.proofs.Accepted.{Sound, Accepted}
-use Rattle.definitions.proofs.Kept.{OrderedOn, SlotHolds, EachSlot, all-within, sized-past, Inside, inside-lt, lt-inside}
-use Rattle.definitions.proofs.Places.{place-kept, place-mono, rank-le, rank-mono, rank-below, Placed, no-gap}
+use Rattle.definitions.proofs.Kept.{OrderedOn, SlotHolds, EachSlot, all-within, sized-past, Inside, inside-lt}
+use Rattle.definitions.proofs.Places.{place-kept, place-mono, rank-le, rank-mono, rank-below, no-gap}
 use Rattle.definitions.proofs.Tandem.{past-mono}
-use Rattle.definitions.proofs.Reading.{after, length-after, size-after, word-after, layout-after, length-layout, hasRun-after, span-after, start-after, pool-after, pool-types, pool-expressions, start-total, kind-expression, kind-type, within-slots, references-after, moved-inside, kept-few, place-few, place-none, word-stays, map-append}
+use Rattle.definitions.proofs.Reading.{after, length-after, size-after, word-after, layout-after, length-layout, span-after, pool-types, pool-expressions, start-total, kind-expression, kind-type, within-slots, references-after, moved-inside, place-few, place-none, map-append}
 
 pub both : (p q : Bool) → T p → T q → T (p && q)
 both true q t u = u
@@ -346,7 +346,7 @@ module _ (s : Areas) (m : List Elem) (c : Sound s) (inside : Within m (Inside s)
   whole-after (suc (suc (suc (suc (suc (suc (suc (suc i)))))))) l = absurd (omega arith)
 
   size-le : (a : Arena) → size (after s m) a ≤ size s a
-  size-le a = rw (size-after s m a) (rank-le m a (size s a))
+  size-le a = rw (size-after s m a) (rank-le (isKept m a) (size s a))
 
   pool-le : (a : Arena) → pool (after s m) a ≡ runsUpTo s m a (size s a) → T (eqb (runsBefore s a (size s a)) (length (pool s a)))
       → length (pool (after s m) a) ≤ length (pool s a)

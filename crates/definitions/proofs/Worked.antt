@@ -1,0 +1,168 @@
+-- Document 01, "Worked on the bench": the cases marked P, as rows of a single checked table.
+-- Assumes nothing.
+use mathlib.Core.Bool.{Bool, true, false, _&&_}
+use mathlib.Core.List.{List, [], _∷_, _++_}
+use Prim.Native.Nat.{ℕ, zero, suc}
+use lib.ListN.{replicate}
+use lib.Dec.{T, eqb}
+use Rattle.definitions.specs.Lists.{all}
+use Rattle.definitions.specs.Areas.{Areas, N, Words, allWords}
+use Rattle.definitions.specs.Outcome.{Maps, Outcome, outcome}
+use Rattle.definitions.specs.MapEntries.{Ranged, range}
+use Rattle.definitions.specs.Lists
+use Rattle.definitions.specs.Areas as A
+use Rattle.definitions.specs.Slots
+use Rattle.definitions.specs.References
+use Rattle.definitions.specs.Roots
+use Rattle.definitions.specs.Order
+use Rattle.definitions.specs.Sweep
+use Rattle.definitions.specs.Refusals
+use Rattle.definitions.specs.Numbering
+use Rattle.definitions.specs.Records
+use Rattle.definitions.specs.Outcome as O
+use Rattle.definitions.specs.MapEntries
+
+-- all that a pass and a range compute with: `unfolding computed` opens it
+unfoldable computed : ℕ
+unfolding Lists.total Lists.gather Lists.countUp Lists.select Lists.all A.number A.numbered A.words A.width A.allWords A.widths A.limits A.lengthOf A.recordsOf A.size A.word A.pool A.mentionCount A.mentionWord A.same Slots.fill Slots.typeSlots Slots.levelSlots Slots.querySlots Slots.formOf Slots.exprSlots Slots.slots Slots.layout References.hasRun References.span References.run References.namedBy References.namedFrom References.references Roots.those Roots.mention Roots.isNamed Roots.isAbstract Roots.rootConstant Roots.namedOverride Roots.commonRoots Roots.moreRoots Roots.roots Order.behind Order.withBehind Order.onePast Order.sizedBy Order.maxDep Order.falling Order.visits Order.order Order.later Order.wellOrdered Sweep.has Sweep.visit Sweep.sweep Sweep.kept Refusals.firstOf Refusals.scan Refusals.scanAreas Refusals.scanRecords Refusals.scanMentions Refusals.check1 Refusals.check2 Refusals.check3 Refusals.every Refusals.runsBefore Refusals.shaped Refusals.shapedAt Refusals.poolUsed Refusals.check4 Refusals.ofModule Refusals.check5 Refusals.inside Refusals.held Refusals.heldAt Refusals.check6 Refusals.check7 Refusals.check Numbering.rank Numbering.place Numbering.mapUpTo Numbering.mapAfter Records.startAfter Records.adjusted Records.adjustedFrom Records.recordAfter Records.recordsUpTo Records.runsUpTo Records.mentionAfter Records.mentionsUpTo Records.keptAreas Records.padded Records.areasAfter O.lengths O.keptCounts O.mapsAfter O.outcomeOf O.outcome MapEntries.live MapEntries.last MapEntries.spanned MapEntries.range
+computed = 0
+
+-- ---- the rows
+
+-- a row: a pass over a module, or a range of the map of case 7
+pub data Row : Type 0 where
+  pass : ℕ → Areas → Bool → List Words → Row  -- case, module, flag (true for Yes), and what `seen` begins with
+  ranged : ℕ → ℕ → ℕ → ℕ → ℕ → Row  -- start, end; the number, start and end that it answers
+
+-- maps with room for more than the records, so that "words past that stay" shows
+room : Maps
+room =
+    record {
+      types = replicate 4 7;
+      constants = replicate 4 7;
+      overrides = replicate 4 7;
+      globals = replicate 4 7;
+      expressions = replicate 4 7;
+    }
+
+mapsIn : Maps → List Words
+mapsIn p = p .types ∷ p .constants ∷ p .overrides ∷ p .globals ∷ p .expressions ∷ []
+
+-- what is seen of an outcome: the words of the program's line, the five maps, the eight areas
+seen : ℕ → Outcome → List Words
+seen case r = (case ∷ r .number ∷ r .area ∷ r .record′ ∷ r .counts) ∷ mapsIn (r .maps) ++ allWords (r .areas)
+
+-- types, constants, overrides, expressions, mentions
+module′ : Words → Words → Words → Words → Words → Areas
+module′ t c o e q =
+    record {
+      types = t;
+      constants = c;
+      overrides = o;
+      globals = [];
+      expressions = e;
+      members = [];
+      components = [];
+      mentions = q;
+    }
+
+-- a pass that is refused with number, area and record: counts 0, and nothing has changed
+refuses : ℕ → Areas → Bool → ℕ → ℕ → ℕ → Row
+refuses case s keep nr a h = pass case s keep ((case ∷ nr ∷ a ∷ h ∷ replicate 7 0) ∷ mapsIn room ++ allWords s)
+
+-- a pass that is accepted, with its kept types, constants, overrides, globals and expressions
+keeps : ℕ → Areas → Bool → ℕ → ℕ → ℕ → ℕ → ℕ → Row
+keeps case s keep t c o g e = pass case s keep ((case ∷ 0 ∷ 0 ∷ 0 ∷ t ∷ c ∷ o ∷ g ∷ e ∷ 0 ∷ 0 ∷ []) ∷ [])
+
+-- words, then N to that many
+upTo : ℕ → Words → Words
+upTo zero ws = []
+upTo (suc n) [] = N ∷ upTo n []
+upTo (suc n) (w ∷ ws) = w ∷ upTo n ws
+
+-- an expression: its kind, its first slots, its tag
+expression : ℕ → Words → ℕ → Words
+expression k ws t = k ∷ upTo 9 ws ++ (t ∷ [])
+
+literal : ℕ → Words
+literal t = expression 0 [] t
+
+-- a type with no handles, unnamed, with tag 0
+leaf : Words
+leaf = 0 ∷ 0 ∷ N ∷ N ∷ 0 ∷ []
+
+-- the module of cases 1 and 2
+case1 : Areas
+case1 = module′ (0 ∷ 0 ∷ N ∷ N ∷ 10 ∷ 2 ∷ 1 ∷ 0 ∷ 0 ∷ 11 ∷ []) [] (0 ∷ 0 ∷ 1 ∷ 0 ∷ []) (literal 20 ++ literal 21) []
+
+-- "Expression [..] names the unnamed constant 0 whose init is expression 0"
+case4 : Words → Areas
+case4 e = module′ leaf (0 ∷ 0 ∷ 0 ∷ 0 ∷ []) [] e []
+
+-- "Types: leaf, array sized by an override with init expression 1, leaf."
+case5 : Words → Areas
+case5 e = module′ (leaf ++ (2 ∷ 0 ∷ 0 ∷ 0 ∷ 0 ∷ []) ++ leaf) [] (0 ∷ 0 ∷ 1 ∷ 0 ∷ []) e []
+
+-- "A named constant of an abstract type": the type's flags
+case6 : ℕ → Areas
+case6 flags = module′ (0 ∷ flags ∷ N ∷ N ∷ 0 ∷ []) (1 ∷ 0 ∷ 0 ∷ 0 ∷ []) [] (literal 0) []
+
+-- an expression behind a literal, mentioned
+case9 : Words → Areas
+case9 e = module′ [] [] [] (literal 0 ++ e) (4 ∷ 1 ∷ [])
+
+pub table : List Row
+table =
+    pass 1 case1 true
+    ((1 ∷ 0 ∷ 0 ∷ 0 ∷ 2 ∷ 0 ∷ 1 ∷ 0 ∷ 1 ∷ 0 ∷ 0 ∷ [])
+    ∷ (0 ∷ 1 ∷ 7 ∷ 7 ∷ []) ∷ replicate 4 7 ∷ (0 ∷ 7 ∷ 7 ∷ 7 ∷ []) ∷ replicate 4 7 ∷ (N ∷ 0 ∷ 7 ∷ 7 ∷ [])
+    ∷ (0 ∷ 0 ∷ N ∷ N ∷ 10 ∷ 2 ∷ 1 ∷ 0 ∷ 0 ∷ 11 ∷ []) ∷ [] ∷ (0 ∷ 0 ∷ 0 ∷ 0 ∷ []) ∷ [] ∷ (literal 21 ++ replicate 11 N) ∷ [] ∷ [] ∷ [] ∷ [])
+    ∷ pass 2 case1 false
+    ((2 ∷ 0 ∷ 0 ∷ 0 ∷ replicate 7 0)
+    ∷ (N ∷ N ∷ 7 ∷ 7 ∷ []) ∷ replicate 4 7 ∷ (N ∷ 7 ∷ 7 ∷ 7 ∷ []) ∷ replicate 4 7 ∷ (N ∷ N ∷ 7 ∷ 7 ∷ [])
+    ∷ replicate 10 N ∷ [] ∷ replicate 4 N ∷ [] ∷ replicate 22 N ∷ [] ∷ [] ∷ [] ∷ [])
+    ∷ refuses 4 (case4 (expression 5 (0 ∷ []) 0)) true 7 4 0
+    ∷ keeps 4 (case4 (literal 0 ++ expression 5 (0 ∷ []) 0)) true 0 0 0 0 0
+    ∷ refuses 5 (case5 (expression 7 (2 ∷ []) 0 ++ literal 0)) true 7 4 0
+    ∷ keeps 5 (case5 (literal 0 ++ literal 0 ++ expression 7 (2 ∷ []) 0)) true 0 0 0 0 0
+    ∷ keeps 6 (case6 2) true 0 0 0 0 0
+    ∷ keeps 6 (case6 0) true 1 1 0 0 1
+    ∷ ranged 0 1 0 0 0
+    ∷ ranged 0 2 0 0 1
+    ∷ ranged 1 4 0 0 2
+    ∷ ranged 2 5 0 1 3
+    ∷ ranged 5 5 0 0 0
+    ∷ ranged 0 6 8 N N
+    ∷ ranged 3 2 8 N N
+    ∷ keeps 9 (case9 (expression 33 (0 ∷ 0 ∷ 0 ∷ []) 0)) false 0 0 0 0 2
+    ∷ refuses 9 (case9 (expression 34 (0 ∷ 0 ∷ 0 ∷ []) 0)) false 4 4 1
+    ∷ refuses 9 (case9 (expression 13 (0 ∷ []) 0)) false 5 4 1
+    ∷ refuses 10 (module′ (1 ∷ 0 ∷ 9 ∷ N ∷ 0 ∷ []) [] [] (expression 34 [] 0) []) false 4 4 0
+    ∷ keeps 11 (module′ [] [] [] [] []) true 0 0 0 0 0
+    ∷ []
+
+-- ---- the check of the table
+
+sameWords : Words → Words → Bool
+sameWords [] [] = true
+sameWords [] (y ∷ ys) = false
+sameWords (x ∷ xs) [] = false
+sameWords (x ∷ xs) (y ∷ ys) = eqb x y && sameWords xs ys
+
+-- the second begins with the first
+begins : List Words → List Words → Bool
+begins [] l = true
+begins (x ∷ xs) [] = false
+begins (x ∷ xs) (y ∷ ys) = sameWords x y && begins xs ys
+
+rangedWords : Ranged → Words
+rangedWords r = r .number ∷ r .start ∷ r .end ∷ []
+
+pub holds : Row → Bool
+holds (pass case s keep l) = begins l (seen case (outcome s room keep))
+holds (ranged a b nr c d) = sameWords (nr ∷ c ∷ d ∷ []) (rangedWords (range (N ∷ 0 ∷ N ∷ 1 ∷ 2 ∷ []) a b))
+
+-- every row of the table holds
+pub worked : T (all holds table)
+unfolding computed holds table begins sameWords rangedWords seen mapsIn refuses keeps case1 case4 case5 case6 case9 module′ room leaf literal expression upTo
+worked = tt
