@@ -8,7 +8,7 @@ use lib.Dec.{T, eqb}
 use Rattle.definitions.specs.Lists.{all}
 use Rattle.definitions.specs.Areas.{Areas, N, Words, allWords}
 use Rattle.definitions.specs.Outcome.{Maps, Outcome, outcome}
-use Rattle.definitions.specs.MapEntries.{Ranged, range}
+use Rattle.definitions.specs.MapEntries.{Adjusted, Ranged, lookup, adjust, range}
 use Rattle.definitions.specs.Lists
 use Rattle.definitions.specs.Areas as A
 use Rattle.definitions.specs.Slots
@@ -24,15 +24,17 @@ use Rattle.definitions.specs.MapEntries
 
 -- all that a pass and a range compute with: `unfolding computed` opens it
 unfoldable computed : ℕ
-unfolding Lists.total Lists.gather Lists.countUp Lists.select Lists.all A.number A.numbered A.words A.width A.allWords A.widths A.limits A.lengthOf A.recordsOf A.size A.word A.pool A.mentionCount A.mentionWord A.same Slots.fill Slots.typeSlots Slots.levelSlots Slots.querySlots Slots.formOf Slots.exprSlots Slots.slots Slots.layout References.hasRun References.span References.run References.namedBy References.namedFrom References.references Roots.those Roots.mention Roots.isNamed Roots.isAbstract Roots.rootConstant Roots.namedOverride Roots.commonRoots Roots.moreRoots Roots.roots Order.behind Order.withBehind Order.onePast Order.sizedBy Order.maxDep Order.falling Order.visits Order.order Order.later Order.wellOrdered Sweep.has Sweep.visit Sweep.sweep Sweep.kept Refusals.firstOf Refusals.scan Refusals.scanAreas Refusals.scanRecords Refusals.scanMentions Refusals.check1 Refusals.check2 Refusals.check3 Refusals.every Refusals.runsBefore Refusals.shaped Refusals.shapedAt Refusals.poolUsed Refusals.check4 Refusals.ofModule Refusals.check5 Refusals.inside Refusals.held Refusals.heldAt Refusals.check6 Refusals.check7 Refusals.check Numbering.rank Numbering.place Numbering.mapUpTo Numbering.mapAfter Records.startAfter Records.adjusted Records.adjustedFrom Records.recordAfter Records.recordsUpTo Records.runsUpTo Records.mentionAfter Records.mentionsUpTo Records.keptAreas Records.padded Records.areasAfter O.lengths O.keptCounts O.mapsAfter O.outcomeOf O.outcome MapEntries.live MapEntries.last MapEntries.spanned MapEntries.range
+unfolding Lists.total Lists.gather Lists.countUp Lists.select Lists.all A.number A.numbered A.words A.width A.allWords A.widths A.limits A.lengthOf A.recordsOf A.size A.word A.pool A.mentionCount A.mentionWord A.same Slots.fill Slots.typeSlots Slots.levelSlots Slots.querySlots Slots.formOf Slots.exprSlots Slots.slots Slots.layout References.hasRun References.span References.run References.namedBy References.namedFrom References.references Roots.those Roots.mention Roots.isNamed Roots.isAbstract Roots.rootConstant Roots.namedOverride Roots.commonRoots Roots.moreRoots Roots.roots Order.behind Order.withBehind Order.onePast Order.sizedBy Order.maxDep Order.falling Order.visits Order.order Order.later Order.wellOrdered Sweep.has Sweep.visit Sweep.sweep Sweep.kept Refusals.firstOf Refusals.scan Refusals.scanAreas Refusals.scanRecords Refusals.scanMentions Refusals.check1 Refusals.check2 Refusals.check3 Refusals.every Refusals.runsBefore Refusals.shaped Refusals.shapedAt Refusals.poolUsed Refusals.check4 Refusals.ofModule Refusals.check5 Refusals.inside Refusals.held Refusals.heldAt Refusals.check6 Refusals.check7 Refusals.check Numbering.rank Numbering.place Numbering.mapUpTo Numbering.mapAfter Records.startAfter Records.adjusted Records.adjustedFrom Records.recordAfter Records.recordsUpTo Records.runsUpTo Records.mentionAfter Records.mentionsUpTo Records.keptAreas Records.padded Records.areasAfter O.lengths O.keptCounts O.mapsAfter O.outcomeOf O.outcome MapEntries.lookup MapEntries.adjust MapEntries.live MapEntries.last MapEntries.spanned MapEntries.range
 computed = 0
 
 -- ---- the rows
 
--- a row: a pass over a module, or a range of the map of case 7
+-- a row: a pass over a module, or what the map entries answer on the map of case 7
 pub data Row : Type 0 where
-  pass : ℕ → Areas → Bool → List Words → Row  -- case, module, flag (true for Yes), and what `seen` begins with
+  pass : ℕ → Areas → Bool → List Words → Row  -- case (0 for one of our own), module, flag (true for Yes), and what `seen` begins with
   ranged : ℕ → ℕ → ℕ → ℕ → ℕ → Row  -- start, end; the number, start and end that it answers
+  looked : ℕ → ℕ → Row  -- handle; what lookup gives
+  adjusted′ : ℕ → ℕ → ℕ → Row  -- handle; the number and the handle that adjust answers
 
 -- maps with room for more than the records, so that "words past that stay" shows
 room : Maps
@@ -62,6 +64,20 @@ module′ t c o e q =
       globals = [];
       expressions = e;
       members = [];
+      components = [];
+      mentions = q;
+    }
+
+-- types, members, mentions
+pooled : Words → Words → Words → Areas
+pooled t p q =
+    record {
+      types = t;
+      constants = [];
+      overrides = [];
+      globals = [];
+      expressions = [];
+      members = p;
       components = [];
       mentions = q;
     }
@@ -134,9 +150,26 @@ table =
     ∷ ranged 5 5 0 0 0
     ∷ ranged 0 6 8 N N
     ∷ ranged 3 2 8 N N
+    -- the other two map entries on the same map: "a dropped handle or one past the end gives N"; "8 past the end, 9 on N"
+    ∷ looked 0 N
+    ∷ looked 3 1
+    ∷ looked 5 N
+    ∷ adjusted′ 0 9 N
+    ∷ adjusted′ 3 0 1
+    ∷ adjusted′ 5 8 N
     ∷ keeps 9 (case9 (expression 33 (0 ∷ 0 ∷ 0 ∷ []) 0)) false 0 0 0 0 2
     ∷ refuses 9 (case9 (expression 34 (0 ∷ 0 ∷ 0 ∷ []) 0)) false 4 4 1
     ∷ refuses 9 (case9 (expression 13 (0 ∷ []) 0)) false 5 4 1
+    -- "Check 4 passes over them and doesn't read their slots."
+    ∷ refuses 9 (case9 (expression 13 (1 ∷ 2 ∷ 3 ∷ 4 ∷ 5 ∷ 6 ∷ 7 ∷ 8 ∷ 9 ∷ []) 0)) false 5 4 1
+    ∷ refuses 9 (case9 (expression 27 (1 ∷ 2 ∷ 3 ∷ 4 ∷ 5 ∷ 6 ∷ 7 ∷ 8 ∷ 9 ∷ []) 0)) false 5 4 1
+    -- "youngest first": 2 keeps 1, and 1 keeps 0
+    ∷ keeps 0 (module′ [] [] [] (literal 0 ++ expression 19 (0 ∷ []) 0 ++ expression 19 (1 ∷ []) 0) (4 ∷ 2 ∷ [])) false 0 0 0 0 3
+    -- "Adjusting a run under its old start after the pool has moved": the first of two structs goes
+    ∷ pass 0 (pooled (leaf ++ (3 ∷ 0 ∷ 0 ∷ 2 ∷ 0 ∷ []) ++ (3 ∷ 0 ∷ 2 ∷ 1 ∷ 0 ∷ [])) (0 ∷ 0 ∷ 0 ∷ []) (0 ∷ 2 ∷ [])) false
+    ((0 ∷ 0 ∷ 0 ∷ 0 ∷ 2 ∷ 0 ∷ 0 ∷ 0 ∷ 0 ∷ 1 ∷ 0 ∷ [])
+    ∷ (0 ∷ N ∷ 1 ∷ 7 ∷ []) ∷ replicate 4 7 ∷ replicate 4 7 ∷ replicate 4 7 ∷ replicate 4 7
+    ∷ (leaf ++ (3 ∷ 0 ∷ 0 ∷ 1 ∷ 0 ∷ []) ++ replicate 5 N) ∷ [] ∷ [] ∷ [] ∷ [] ∷ (0 ∷ N ∷ N ∷ []) ∷ [] ∷ (0 ∷ 1 ∷ []) ∷ [])
     ∷ refuses 10 (module′ (1 ∷ 0 ∷ 9 ∷ N ∷ 0 ∷ []) [] [] (expression 34 [] 0) []) false 4 4 0
     ∷ keeps 11 (module′ [] [] [] [] []) true 0 0 0 0 0
     ∷ []
@@ -155,14 +188,22 @@ begins [] l = true
 begins (x ∷ xs) [] = false
 begins (x ∷ xs) (y ∷ ys) = sameWords x y && begins xs ys
 
+map7 : Words
+map7 = N ∷ 0 ∷ N ∷ 1 ∷ 2 ∷ []
+
+adjustedWords : Adjusted → Words
+adjustedWords r = r .number ∷ r .handle ∷ []
+
 rangedWords : Ranged → Words
 rangedWords r = r .number ∷ r .start ∷ r .end ∷ []
 
 pub holds : Row → Bool
 holds (pass case s keep l) = begins l (seen case (outcome s room keep))
-holds (ranged a b nr c d) = sameWords (nr ∷ c ∷ d ∷ []) (rangedWords (range (N ∷ 0 ∷ N ∷ 1 ∷ 2 ∷ []) a b))
+holds (ranged a b nr c d) = sameWords (nr ∷ c ∷ d ∷ []) (rangedWords (range map7 a b))
+holds (looked h v) = eqb v (lookup map7 h)
+holds (adjusted′ h nr v) = sameWords (nr ∷ v ∷ []) (adjustedWords (adjust map7 h))
 
 -- every row of the table holds
 pub worked : T (all holds table)
-unfolding computed holds table begins sameWords rangedWords seen mapsIn refuses keeps case1 case4 case5 case6 case9 module′ room leaf literal expression upTo
+unfolding computed holds table begins sameWords map7 adjustedWords rangedWords seen mapsIn refuses keeps case1 case4 case5 case6 case9 module′ pooled room leaf literal expression upTo
 worked = tt
