@@ -78,14 +78,14 @@ run-words s m c a = length-gather (isKept m a) _ (size s a) ∙ start-total s m 
 -- the seven counts of an accepted module
 pub counts : (s : Areas) (p : Maps) (keep : Bool) → T (passes (check s (lengths p)))
     → outcome s p keep .counts
-      ≡ entries s types (mapOf (outcome s p keep .maps) types)
-      ∷ entries s constants (mapOf (outcome s p keep .maps) constants)
-      ∷ entries s overrides (mapOf (outcome s p keep .maps) overrides)
-      ∷ entries s globals (mapOf (outcome s p keep .maps) globals)
-      ∷ entries s expressions (mapOf (outcome s p keep .maps) expressions)
-      ∷ keptRuns s (kept s keep) types
-      ∷ keptRuns s (kept s keep) expressions
-      ∷ []
+    ≡ entries s types (mapOf (outcome s p keep .maps) types)
+    ∷ entries s constants (mapOf (outcome s p keep .maps) constants)
+    ∷ entries s overrides (mapOf (outcome s p keep .maps) overrides)
+    ∷ entries s globals (mapOf (outcome s p keep .maps) globals)
+    ∷ entries s expressions (mapOf (outcome s p keep .maps) expressions)
+    ∷ keptRuns s (kept s keep) types
+    ∷ keptRuns s (kept s keep) expressions
+    ∷ []
 unfolding outcomeOf keptCounts mapOf mapsAfter
 counts s p keep t =
     let c : Sound s = facts s (lengths p) t .sound in

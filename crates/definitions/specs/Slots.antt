@@ -76,7 +76,7 @@ exprSlots form =
     ∷ one ∷ one ∷ one  -- 10 `AccessIndex` 11 `Splat` 12 `Swizzle`
     ∷ nine  -- 13 `GlobalVariable`: not at module scope
     ∷ one  -- 14 `Load`
-    ∷ (three ++ (may expressions ∷ may expressions ∷ below 5 ∷ []) ++ getD levelSlots form [] ++ (may expressions ∷ []))  -- 15 `ImageSample`
+    ∷ (three ++ (may expressions ∷ may expressions ∷ below 5 ∷ []) ++ getD levelSlots form (unused ∷ unused ∷ []) ++ (may expressions ∷ []))  -- 15 `ImageSample`
     ∷ (two ++ (may expressions ∷ may expressions ∷ may expressions ∷ []))  -- 16 `ImageLoad`
     ∷ (one ++ (below 4 ∷ []) ++ querySlots form)  -- 17 `ImageQuery`
     ∷ one ∷ one  -- 18 `RayQueryVertexPositions` 19 `Unary`
@@ -92,13 +92,21 @@ exprSlots form =
     ∷ three  -- 33 `CooperativeMultiplyAdd`
     ∷ []
 
--- what each word of a record is, by its words
+-- the words of a record before its tag, by the words it has
+unfoldable pub body : Arena → (ℕ → ℕ) → List Slot
+body types f = below 4 ∷ below 4 ∷ fill 2 (getD typeSlots (f 0) [])  -- kind, flags, a, b
+body constants f = below 2 ∷ must types ∷ must expressions ∷ []  -- named, type, init
+body overrides f = below 2 ∷ must types ∷ may expressions ∷ []  -- named, type, init or N
+body globals f = must types ∷ may expressions ∷ []  -- type, init or N
+body expressions f = below 34 ∷ fill 9 (getD (exprSlots (formOf f)) (f 0) [])  -- kind, nine slots
+
+-- "Tags are the host's own numbers and are only carried along."
+abbrev pub tag : List Slot
+tag = free ∷ []
+
+-- what each word of a record is, by the words it has
 unfoldable pub slots : Arena → (ℕ → ℕ) → List Slot
-slots types f = below 4 ∷ below 4 ∷ fill 2 (getD typeSlots (f 0) []) ++ (free ∷ [])
-slots constants f = below 2 ∷ must types ∷ must expressions ∷ free ∷ []
-slots overrides f = below 2 ∷ must types ∷ may expressions ∷ free ∷ []
-slots globals f = must types ∷ may expressions ∷ free ∷ []
-slots expressions f = below 34 ∷ fill 9 (getD (exprSlots (formOf f)) (f 0) []) ++ (free ∷ [])
+slots a f = body a f ++ tag
 
 -- what each word of record h is
 unfoldable pub layout : Areas → Arena → ℕ → List Slot
