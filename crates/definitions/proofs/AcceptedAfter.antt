@@ -13,7 +13,7 @@ use borrow.Author.Tests.{eqb-false, eqb-true, eq-eqb, ne-eqb}
 use lib.ListN.{length, getD}
 use Rattle.definitions.specs.Lists.{all, any, gather, total}
 use Rattle.definitions.specs.Areas.{recordsOf, Areas, Arena, Elem, N, Words, allWords, at, constants, expressions, globals, lengthOf, limits, mentionCount, mentionWord, numbered, overrides, pool, size, types, width, widths, word, words}
-use Rattle.definitions.specs.Slots.{body, Slot, below, count, fill, free, layout, may, must, slots, start, typeSlots, unused}
+use Rattle.definitions.specs.Slots.{body, typeBody, exprBody, Slot, below, count, fill, free, layout, may, must, slots, start, typeSlots, unused}
 use Rattle.definitions.specs.References.{hasRun, namedFrom, references, run, span}
 use Rattle.definitions.specs.Roots.{mention}
 use Rattle.definitions.specs.Order.{behind, later, maxDep, onePast, sizedBy, wellOrdered, withBehind}
@@ -219,7 +219,7 @@ module _ (s : Areas) (m : List Elem) (c : Sound s) (inside : Within m (Inside s)
       (λ y j. closed (at a h) y i (append-left y (namedFrom (word s a h) 0 (layout s a h)) (map (at a) (run s a h)) j))
 
   sized-layout : (u : ℕ) → word s types u 0 ≡ 2 → layout s types u ≡ below 4 ∷ below 4 ∷ must types ∷ must overrides ∷ free ∷ []
-  unfolding layout slots typeSlots fill body
+  unfolding layout slots typeSlots fill body typeBody exprBody
   sized-layout u e =
       subst (λ k. below 4 ∷ below 4 ∷ fill 2 (getD typeSlots k []) ++ (free ∷ []) ≡ below 4 ∷ below 4 ∷ must types ∷ must overrides ∷ free ∷ []) (sym e) refl
 
@@ -237,7 +237,7 @@ module _ (s : Areas) (m : List Elem) (c : Sound s) (inside : Within m (Inside s)
           (rank-below m expressions w (suc w) i (le-refl (suc w)))
 
   sized-after : (u : ℕ) → at types u ∈ m → u < size s types → sizedBy (after s m) (rank (isKept m types) u) ≤ rank (isKept m expressions) (sizedBy s u)
-  unfolding sizedBy adjusted width layout slots body
+  unfolding sizedBy adjusted width layout slots body typeBody exprBody
   sized-after u i l = rw (kind-type s m u i l) (go (eqb (word s types u 0) 2) (eqb-true (word s types u 0) 2))
     where
       o : ℕ

@@ -12,7 +12,7 @@ use lib.ListN.{getD}
 use borrow.Author.Tests.{eqb-true, eqb-false, eq-eqb, ne-eqb}
 use Rattle.definitions.specs.Lists.{all, any, countUp, select}
 use Rattle.definitions.specs.Areas.{Areas, Arena, Elem, N, Words, at, constants, expressions, globals, mentionCount, overrides, size, types, word}
-use Rattle.definitions.specs.Slots.{body, Slot, below, count, fill, free, layout, may, must, slots, start, typeSlots, unused}
+use Rattle.definitions.specs.Slots.{body, typeBody, exprBody, Slot, below, count, fill, free, layout, may, must, slots, start, typeSlots, unused}
 use Rattle.definitions.specs.References.{hasRun, namedBy, namedFrom, references, run, span}
 use Rattle.definitions.specs.Roots.{commonRoots, isNamed, mention, moreRoots, namedOverride, rootConstant, roots, those}
 use Rattle.definitions.specs.Order.{behind, later, maxDep, onePast, order, sizedBy, wellOrdered, withBehind}
@@ -76,7 +76,7 @@ append-within P l m a b y h = ⊎-elim (λ i. a y i) (λ i. b y i) (append-cases
 module _ (s : Areas) where
   -- a constant, override or global names no other such
   behind-plain : (x : Elem) → Within (behind s x) Plain
-  unfolding behind references layout slots run span hasRun body
+  unfolding behind references layout slots run span hasRun body typeBody exprBody
   behind-plain (at types h) y i = absurd (none-in y i)
   behind-plain (at constants h) y i =
       append-within Plain (namedFrom (word s constants h) 0 (layout s constants h)) []
@@ -274,7 +274,7 @@ module _ (s : Areas) where
       ⊎-elim (λ e. subst (TypeRef t) (sym e) tt) (λ i. types-within t ws y i) (cons-cases y (at types w) (map (at types) ws) h)
 
   type-refs : (t : ℕ) → Within (references s (at types t)) (TypeRef t)
-  unfolding references layout slots body
+  unfolding references layout slots body typeBody exprBody
   type-refs t =
       append-within (TypeRef t) _ (map (at types) (run s types t))
       (namedIn-within (TypeRef t) (word s types t) 0 _ (type-slots t (word s types t 0) refl))
@@ -288,7 +288,7 @@ module _ (s : Areas) where
   InitRef o (at expressions i) = (i ≡ word s overrides o 2) × (word s overrides o 2 ≡ N → ⊥)
 
   override-refs : (o : ℕ) → Within (behind s (at overrides o)) (InitRef o)
-  unfolding behind references layout slots run span hasRun body
+  unfolding behind references layout slots run span hasRun body typeBody exprBody
   override-refs o =
       append-within (InitRef o) (namedFrom (word s overrides o) 0 (layout s overrides o)) []
       (namedIn-within (InitRef o) (word s overrides o) 0 (layout s overrides o) (tt, (tt, (λ n. (refl, n), (tt, tt)))))

@@ -11,7 +11,7 @@ use lib.ListN.{length, getD, take, drop, length-append, length-take, length-drop
 use borrow.Author.Tests.{eq-eqb, ne-eqb, eqb-true, eqb-false}
 use Rattle.definitions.specs.Lists.{gather, total}
 use Rattle.definitions.specs.Areas.{Areas, Arena, Elem, N, Words, at, constants, expressions, globals, overrides, pool, size, types, width, word, words}
-use Rattle.definitions.specs.Slots.{body, Slot, below, count, exprSlots, fill, formOf, free, layout, may, must, slots, start, typeSlots, unused}
+use Rattle.definitions.specs.Slots.{body, typeBody, exprBody, Slot, below, count, exprSlots, fill, formOf, free, layout, may, must, slots, start, typeSlots, unused}
 use Rattle.definitions.specs.References.{hasRun, namedBy, namedFrom, references, run, span}
 use Rattle.definitions.specs.Refusals.{every, runsBefore, shaped, shapedAt}
 use Rattle.definitions.specs.Numbering.{isKept, moved, place, rank}
@@ -93,7 +93,7 @@ length-fill (suc n) (x ∷ l) = ap suc (length-fill n l)
 
 -- as many slots as words
 pub length-slots : (a : Arena) (f : ℕ → ℕ) → length (slots a f) ≡ width a
-unfolding slots width body
+unfolding slots width body typeBody exprBody
 length-slots types f = simp (length-append, length-fill)
 length-slots constants f = refl
 length-slots overrides f = refl
@@ -184,11 +184,11 @@ module _ (s : Areas) (m : List Elem) where
         word-after a h k i l b ∙ ap (λ y. adjusted m (startAfter s m a h) y (word s a h k)) e ∙ q
 
   pub kind-type : (h : ℕ) → at types h ∈ m → h < size s types → word after types (rank (isKept m types) h) 0 ≡ word s types h 0
-  unfolding width layout slots adjusted body
+  unfolding width layout slots adjusted body typeBody exprBody
   kind-type h i l = word-stays types h i l 0 (lit< tt) (below 4) refl refl
 
   pub kind-expression : (h : ℕ) → at expressions h ∈ m → h < size s expressions → word after expressions (rank (isKept m expressions) h) 0 ≡ word s expressions h 0
-  unfolding width layout slots adjusted body
+  unfolding width layout slots adjusted body typeBody exprBody
   kind-expression h i l = word-stays expressions h i l 0 (lit< tt) (below 34) refl refl
 
   level-slot : (x k : ℕ) → k ≡ 15 → getD (below 34 ∷ fill 9 (getD (exprSlots x) k []) ++ (free ∷ [])) 6 unused ≡ below 5
@@ -200,7 +200,7 @@ module _ (s : Areas) (m : List Elem) where
   query-slot x k e = subst (λ j. getD (below 34 ∷ fill 9 (getD (exprSlots x) j []) ++ (free ∷ [])) 2 unused ≡ below 4) (sym e) refl
 
   form-stays : (h : ℕ) → at expressions h ∈ m → h < size s expressions → formOf (word after expressions (rank (isKept m expressions) h)) ≡ formOf (word s expressions h)
-  unfolding formOf width layout slots adjusted body
+  unfolding formOf width layout slots adjusted body typeBody exprBody
   form-stays h i l = rw (kind-expression h i l) (go (eqb (word s expressions h 0) 15) (eqb-true (word s expressions h 0) 15) (eqb (word s expressions h 0) 17) (eqb-true (word s expressions h 0) 17))
     where
       f : ℕ → ℕ
@@ -213,7 +213,7 @@ module _ (s : Areas) (m : List Elem) where
       go false e false q = refl
 
   pub layout-after : (a : Arena) (h : ℕ) → at a h ∈ m → h < size s a → layout after a (rank (isKept m a) h) ≡ layout s a h
-  unfolding layout slots body
+  unfolding layout slots body typeBody exprBody
   layout-after types h i l = rw (kind-type h i l)
   layout-after constants h i l = refl
   layout-after overrides h i l = refl
@@ -240,7 +240,7 @@ module _ (s : Areas) (m : List Elem) where
   expr-run-slots x k e = subst (λ j. below 34 ∷ fill 9 (getD (exprSlots x) j []) ++ (free ∷ []) ≡ below 34 ∷ must types ∷ start ∷ count ∷ unused ∷ unused ∷ unused ∷ unused ∷ unused ∷ unused ∷ free ∷ []) (sym e) refl
 
   pub start-slot : (a : Arena) (h : ℕ) → T (hasRun s a h) → getD (layout s a h) 2 unused ≡ start
-  unfolding hasRun layout slots body
+  unfolding hasRun layout slots body typeBody exprBody
   start-slot types h t = ap (λ ls. getD ls 2 unused) (type-run-slots _ (run-type h t))
   start-slot constants h t = absurd t
   start-slot overrides h t = absurd t
@@ -248,7 +248,7 @@ module _ (s : Areas) (m : List Elem) where
   start-slot expressions h t = ap (λ ls. getD ls 2 unused) (expr-run-slots _ _ (run-expression h t))
 
   pub count-slot : (a : Arena) (h : ℕ) → T (hasRun s a h) → getD (layout s a h) 3 unused ≡ count
-  unfolding hasRun layout slots body
+  unfolding hasRun layout slots body typeBody exprBody
   count-slot types h t = ap (λ ls. getD ls 3 unused) (type-run-slots _ (run-type h t))
   count-slot constants h t = absurd t
   count-slot overrides h t = absurd t

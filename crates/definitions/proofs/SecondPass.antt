@@ -10,7 +10,7 @@ use native.Mathlib.Omega.{arith}
 use lib.Dec.{T, lit<}
 use Rattle.definitions.specs.Lists.{any, countUp, select}
 use Rattle.definitions.specs.Areas.{Areas, Arena, Elem, at, constants, globals, mentionCount, overrides, size, types, width, word}
-use Rattle.definitions.specs.Slots.{body, below, layout, slots}
+use Rattle.definitions.specs.Slots.{body, typeBody, exprBody, below, layout, slots}
 use Rattle.definitions.specs.References.{references}
 use Rattle.definitions.specs.Roots.{commonRoots, isAbstract, isNamed, mention, moreRoots, namedOverride, rootConstant, roots, those}
 use Rattle.definitions.specs.Sweep.{kept}
@@ -124,7 +124,7 @@ module _ (s : Areas) (c : Sound s) (keep : Bool) (o : OrderedOn s (kept s keep))
   new-lt a h i = rw (size-after s m a) (rank-below m a h (size s a) i (lt-kept a h i))
 
   flags-after : (h : ℕ) → at types h ∈ m → word (after s m) types (rank (isKept m types) h) 1 ≡ word s types h 1
-  unfolding width layout slots adjusted body
+  unfolding width layout slots adjusted body typeBody exprBody
   flags-after h i = word-stays s m types h i (lt-kept types h i) 1 (lit< tt) (below 4) refl refl
 
   -- those that pass at their old place pass at their new
@@ -138,7 +138,7 @@ module _ (s : Areas) (c : Sound s) (keep : Bool) (o : OrderedOn s (kept s keep))
       (those-in (after s m) a q (rank (isKept m a) (r .which)) (new-lt a (r .which) j) (f (r .which) j (r .which-passes))))
 
   constants-after : (h : ℕ) → at constants h ∈ m → T (rootConstant s h) → T (rootConstant (after s m) (rank (isKept m constants) h))
-  unfolding rootConstant isAbstract width layout slots adjusted body
+  unfolding rootConstant isAbstract width layout slots adjusted body typeBody exprBody
   constants-after h i t =
       let l = lt-kept constants h i in
       let it : at types (word s constants h 1) ∈ m = (kept-slots s m c ins clo constants h i) .1 .0 in
@@ -150,7 +150,7 @@ module _ (s : Areas) (c : Sound s) (keep : Bool) (o : OrderedOn s (kept s keep))
       ) t
 
   overrides-after : (h : ℕ) → at overrides h ∈ m → T (namedOverride s h) → T (namedOverride (after s m) (rank (isKept m overrides) h))
-  unfolding namedOverride width layout slots adjusted body
+  unfolding namedOverride width layout slots adjusted body typeBody exprBody
   overrides-after h i t = rw (word-stays s m overrides h i (lt-kept overrides h i) 0 (lit< tt) (below 2) refl refl) t
 
   types-after : (h : ℕ) → at types h ∈ m → T (isNamed s h) → T (isNamed (after s m) (rank (isKept m types) h))

@@ -92,13 +92,21 @@ exprSlots form =
     ∷ three  -- 33 `CooperativeMultiplyAdd`
     ∷ []
 
+-- an expression's kind and nine slots, by its kind and form
+unfoldable pub exprBody : ℕ → ℕ → List Slot
+exprBody kind form = below 34 ∷ fill 9 (getD (exprSlots form) kind [])
+
+-- a type's kind, flags, a and b, by its kind
+unfoldable pub typeBody : ℕ → List Slot
+typeBody kind = below 4 ∷ below 4 ∷ fill 2 (getD typeSlots kind [])
+
 -- the words of a record before its tag, by the words it has
 unfoldable pub body : Arena → (ℕ → ℕ) → List Slot
-body types f = below 4 ∷ below 4 ∷ fill 2 (getD typeSlots (f 0) [])  -- kind, flags, a, b
+body types f = typeBody (f 0)
 body constants f = below 2 ∷ must types ∷ must expressions ∷ []  -- named, type, init
 body overrides f = below 2 ∷ must types ∷ may expressions ∷ []  -- named, type, init or N
 body globals f = must types ∷ may expressions ∷ []  -- type, init or N
-body expressions f = below 34 ∷ fill 9 (getD (exprSlots (formOf f)) (f 0) [])  -- kind, nine slots
+body expressions f = exprBody (f 0) (formOf f)
 
 -- "Tags are the host's own numbers and are only carried along."
 abbrev pub tag : List Slot
