@@ -46,7 +46,7 @@ module _ (ok : ℕ → Bool) (bad : ℕ → Verdict) where
       subst (λ k. T (ok k)) (suc-add h i ∙ sym (add-suc h i))
       (scan-from r (suc h) n (cond-right (ok h) (scan ok bad (suc h) n) (bad h) (r h) t) i (le-of-suc-le-suc l))
 
-  scan-all : ((i : ℕ) → T (passes (bad i)) → ⊥) → (n : ℕ) → T (passes (scan ok bad 0 n)) → (i : ℕ) → i < n → T (ok i)
+  pub scan-all : ((i : ℕ) → T (passes (bad i)) → ⊥) → (n : ℕ) → T (passes (scan ok bad 0 n)) → (i : ℕ) → i < n → T (ok i)
   scan-all r n t i l = subst (λ k. T (ok k)) (zero-add i) (scan-from r 0 n t i l)
 
   from-scan : (h n : ℕ) → ((i : ℕ) → i < n → T (ok (h + i))) → T (passes (scan ok bad h n))
@@ -59,7 +59,7 @@ module _ (ok : ℕ → Bool) (bad : ℕ → Verdict) where
   all-scan : (n : ℕ) → ((i : ℕ) → i < n → T (ok i)) → T (passes (scan ok bad 0 n))
   all-scan n f = from-scan 0 n (λ i l. subst (λ k. T (ok k)) (sym (zero-add i)) (f i l))
 
-areas-all : (nr : ℕ) (ok : ℕ → Bool) (n : ℕ) → T (passes (scanAreas nr ok n)) → (i : ℕ) → i < n → T (ok i)
+pub areas-all : (nr : ℕ) (ok : ℕ → Bool) (n : ℕ) → T (passes (scanAreas nr ok n)) → (i : ℕ) → i < n → T (ok i)
 unfolding scanAreas passes
 areas-all nr ok n = scan-all ok (λ a. refused nr a 0) (λ i t. t) n
 
@@ -150,14 +150,14 @@ facts s maps t =
       expression-order = records-all 7 wellOrdered s expressions (c7 .1 .0);
     }
 
--- far fewer scanRecords than N
-pub size-few : (s : Areas) → Sound s → (a : Arena) → size s a < N
+-- far fewer records than N, where each area has no more than its limit
+pub size-few : (s : Areas) → ((i : ℕ) → i < 8 → T (leb (recordsOf s i) (getD limits i 0))) → (a : Arena) → size s a < N
 unfolding size width words recordsOf lengthOf widths limits allWords
-size-few s c types = le-trans (suc-le-suc (leb→le _ _ (c .few 0 (lit< tt)))) (lit≤ tt)
-size-few s c constants = le-trans (suc-le-suc (leb→le _ _ (c .few 1 (lit< tt)))) (lit≤ tt)
-size-few s c overrides = le-trans (suc-le-suc (leb→le _ _ (c .few 2 (lit< tt)))) (lit≤ tt)
-size-few s c globals = le-trans (suc-le-suc (leb→le _ _ (c .few 3 (lit< tt)))) (lit≤ tt)
-size-few s c expressions = le-trans (suc-le-suc (leb→le _ _ (c .few 4 (lit< tt)))) (lit≤ tt)
+size-few s few types = le-trans (suc-le-suc (leb→le _ _ (few 0 (lit< tt)))) (lit≤ tt)
+size-few s few constants = le-trans (suc-le-suc (leb→le _ _ (few 1 (lit< tt)))) (lit≤ tt)
+size-few s few overrides = le-trans (suc-le-suc (leb→le _ _ (few 2 (lit< tt)))) (lit≤ tt)
+size-few s few globals = le-trans (suc-le-suc (leb→le _ _ (few 3 (lit< tt)))) (lit≤ tt)
+size-few s few expressions = le-trans (suc-le-suc (leb→le _ _ (few 4 (lit< tt)))) (lit≤ tt)
 
 -- the facts, and room in the maps, are all that the check asks
 pub accepts : (s : Areas) (maps : List ℕ) → Accepted s → T (passes (check3 s maps)) → T (passes (check s maps))

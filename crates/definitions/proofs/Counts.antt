@@ -89,7 +89,7 @@ pub counts : (s : Areas) (p : Maps) (keep : Bool) → T (passes (check s (length
 unfolding outcomeOf keptCounts mapOf mapsAfter
 counts s p keep t =
     let c : Sound s = facts s (lengths p) t .sound in
-    let few : (a : Arena) → size s a ≤ N = λ a. le-trans (omega arith) (size-few s c a) in
+    let few : (a : Arena) → size s a ≤ N = λ a. le-trans (omega arith) (size-few s (c .few) a) in
     rw (outcome-accepted s p keep t)
     (seventh
     (sym (map-entries s (kept s keep) types (p .types) (few types)))

@@ -1,4 +1,4 @@
--- The sweep keeps the least set that holds the roots and all that its members refer to: what does not look at how scanRecords are read.
+-- The sweep keeps the least set that holds the roots and all that its members refer to: what does not look at how records are read.
 -- Assumes nothing.
 use mathlib.Core.Path.{_≡_, refl, ap₂, subst}
 use mathlib.Core.Bool.{Bool, true, false, _&&_, _||_, cond}
@@ -152,7 +152,7 @@ module _ (s : Areas) where
       (λ m. append-right y (behind s z) (withBehind s xs) (touched-behind x y xs m b))
       (cons-cases x z xs h))
 
-  -- a withBehind element is one of them or stands behind one
+  -- an element of the list with what stands behind is one of them or stands behind one
   pub record Behind (y : Elem) (xs : List Elem) : Type 0 where
     pub front : Elem
     pub front-in : front ∈ xs

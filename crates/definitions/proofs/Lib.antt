@@ -1,6 +1,7 @@
 -- The laws of the definitions. What they promise in words: docs/REVIEW.md.
 pub mod Worked
 pub mod Demand3
+pub mod Exactly
 pub mod Counts
 pub mod Unchanged
 pub mod Visits
@@ -8,6 +9,8 @@ pub mod ListLaws
 pub mod Least
 pub mod Tandem
 pub mod Accepted
+pub mod Judged
+pub mod Failing
 pub mod Kept
 pub mod Places
 pub mod Reading

@@ -1,4 +1,4 @@
--- What the compacted module's scanRecords, runs and mentions read as.
+-- What the compacted module's records, runs and mentions read as.
 -- Assumes nothing.
 use mathlib.Core.Path.{_≡_, refl, sym, ap, ap₂, subst, _∙_}
 use mathlib.Core.Bool.{Bool, true, false, cond}
@@ -334,7 +334,7 @@ module _ (s : Areas) (m : List Elem) where
 
     module _ (inside : Within m (Inside s)) (closed : Closed s (λ x. x ∈ m)) where
       pub kept-few : (a : Arena) (h : ℕ) → at a h ∈ m → h < N
-      kept-few a h i = le-trans (inside-lt s a h (inside (at a h) i)) (le-trans (omega arith) (size-few s c a))
+      kept-few a h i = le-trans (inside-lt s a h (inside (at a h) i)) (le-trans (omega arith) (size-few s (c .few) a))
 
       pub place-few : (a : Arena) (h : ℕ) → at a h ∈ m → place (isKept m a) h ≡ N → ⊥
       place-few a h i e =
