@@ -1,0 +1,93 @@
+-- The bits of the elements: each lies below the end, no two elements share one, and what `insert` does to each.
+-- Assumes nothing.
+use mathlib.Core.Path.{_≡_, refl, ap, ap₂, sym, subst, _∙_}
+use mathlib.Core.Bool.{Bool, true, false, _||_}
+use mathlib.Core.List.{List}
+use Prim.Native.Nat.{ℕ, _+_, _≤_, _<_}
+use native.Mathlib.Decide.{decLt}
+use native.Mathlib.Omega.{arith}
+use lib.Dec.{T, lit<}
+use borrow.Author.Tests.{lt-ltb}
+use Rattle.definitions.specs.Lists.{any, total}
+use Rattle.definitions.specs.Areas.{Arena, types, constants, overrides, globals, expressions, number, numbered, Elem, at, same}
+use Rattle.definitions.proofs.Least.{same-eq, same-refl}
+use Rattle.definitions.proofs.ListLaws.{total-share}
+use Rattle.arena.specs.HandleSet.{bases, records, base, bit, member, room, Inserted}
+
+-- the handle is below its arena's count
+abbrev pub Below : (Arena → ℕ) → Elem → Type 0
+Below n (at a h) = h < n a
+
+-- the sum of the counts before an arena, by its number
+abbrev start : (Arena → ℕ) → ℕ → ℕ
+start n k = total any (λ i. n (numbered i)) k
+
+numbered-number : (a : Arena) → numbered (number a) ≡ a
+unfolding numbered number
+numbered-number types = refl
+numbered-number constants = refl
+numbered-number overrides = refl
+numbered-number globals = refl
+numbered-number expressions = refl
+
+number-lt : (a : Arena) → number a < 5
+unfolding number
+number-lt types = lit< tt
+number-lt constants = lit< tt
+number-lt overrides = lit< tt
+number-lt globals = lit< tt
+number-lt expressions = lit< tt
+
+-- the bits of an arena end before those of a later one begin
+share : (n : Arena → ℕ) (a : Arena) (k : ℕ) → number a < k → start n (number a) + n a ≤ start n k
+share n a k l =
+    subst (λ (b : Arena). start n (number a) + n b ≤ start n k) (numbered-number a)
+    (total-share any (λ i. n (numbered i)) (number a) k tt l)
+
+module _ (n : Arena → ℕ) (small : records n < 4294967296) where
+  -- no sum is capped
+  base-start : (a : Arena) → base (bases n) a ≡ start n (number a)
+  unfolding total numbered number
+  base-start types = refl
+  base-start constants = omega arith
+  base-start overrides = omega arith
+  base-start globals = omega arith
+  base-start expressions = omega arith
+
+  -- the bits end where the records do
+  pub end-records : bases n .end ≡ records n
+  end-records = omega arith
+
+  end-start : bases n .end ≡ start n 5
+  unfolding total numbered
+  end-start = omega arith
+
+  -- every bit lies below the end
+  pub bit-below : (x : Elem) → Below n x → bit (bases n) x < bases n .end
+  bit-below (at a h) l = omega (arith, base-start a, end-start, share n a 5 (number-lt a))
+
+  -- no two elements share a bit
+  pub bit-injective : (x y : Elem) → Below n x → Below n y → bit (bases n) x ≡ bit (bases n) y → x ≡ y
+  bit-injective (at a h) (at b k) l m e =
+      elim (decLt (number a) (number b)) [
+        | yes p ↦ absurd (omega (arith, base-start a, base-start b, share n a (number b) p))
+        | no p ↦ elim (decLt (number b) (number a)) [
+          | yes q ↦ absurd (omega (arith, base-start a, base-start b, share n b (number a) q))
+          | no q ↦
+              let i : number a ≡ number b = omega arith in
+              let j : h ≡ k = omega (arith, base-start a, base-start b, ap (start n) i) in
+              ap₂ at (sym (numbered-number a) ∙ ap numbered i ∙ numbered-number b) j
+        ]
+      ]
+
+  -- after `insert` the element is in the set, and every other just when it was
+  pub insert-element : (vs ws : List ℕ) (x y : Elem) → bases n .end ≤ room vs → Below n x → Below n y → Inserted vs (bit (bases n) x) ws
+      → member ws (bit (bases n) y) ≡ same y x || member vs (bit (bases n) y)
+  insert-element vs ws x y fits l m i = go (same y x) refl
+    where
+      go : (b : Bool) → same y x ≡ b → member ws (bit (bases n) y) ≡ b || member vs (bit (bases n) y)
+      go true e =
+          ap (λ (z : Elem). member ws (bit (bases n) z)) (same-eq y x (subst T (sym e) tt))
+          ∙ i .put
+          ∙ lt-ltb (bit (bases n) x) (room vs) (omega (arith, bit-below x l))
+      go false e = i .others (bit (bases n) y) (λ q. subst T (subst (λ (z : Elem). same y z ≡ false) (sym (bit-injective y x m l q)) e) (same-refl y))

@@ -1,0 +1,4 @@
+-- What the contracts of this crate cite beside the definitions of document 01.
+pub mod Elements
+pub mod HandleSet
+pub mod Marks

@@ -1,0 +1,111 @@
+// The set of marked elements: one bit for each, 64 to a word, the arenas one after another.
+ghost use mathlib.Core.Path.{_≡_};
+ghost use Prim.Native.Nat.{_+_, min};
+ghost use Rattle.definitions.specs.Areas.{N};
+ghost use Rattle.arena.specs.Elements.{elementOf};
+ghost use Rattle.arena.specs.HandleSet.{basesOf, bit, member, Inserted, Cleared};
+use crate::Element;
+use crate::N;
+
+// Where the bits of each arena begin, those of types beginning at 0, and where the last arena's end.
+pub struct Bases {
+    pub constants: u32,
+    pub overrides: u32,
+    pub globals: u32,
+    pub expressions: u32,
+    pub end: u32,
+}
+
+// A sum that stays a word.
+fn capped(a: u32, b: u32) -> u32
+    ensures { λ r. ⌜ r ≡ min (a + b) N ⌝ }
+{
+    if b <= N - a {
+        return a + b;
+    }
+    N
+}
+
+impl Bases {
+    // From the five arenas' record counts.
+    pub fn of(types: u32, constants: u32, overrides: u32, globals: u32, expressions: u32) -> Bases
+        ensures { λ r. ⌜ r ≡ basesOf types constants overrides globals expressions ⌝ }
+    {
+        let to_overrides = capped(types, constants);
+        let to_globals = capped(to_overrides, overrides);
+        let to_expressions = capped(to_globals, globals);
+        Bases {
+            constants: types,
+            overrides: to_overrides,
+            globals: to_globals,
+            expressions: to_expressions,
+            end: capped(to_expressions, expressions),
+        }
+    }
+}
+
+// A base and a handle, added in 64 bits.
+fn sum(base: u32, h: u32) -> usize
+    ensures { λ r. ⌜ r ≡ base + h ⌝ }
+{
+    base as usize + h as usize
+}
+
+// The bit of an element.
+pub fn bit(b: Bases, x: Element) -> usize
+    ensures { λ r. ⌜ r ≡ bit b (elementOf x) ⌝ }
+{
+    match x {
+        Element::Type(h) => sum(0, h.0),
+        Element::Constant(h) => sum(b.constants, h.0),
+        Element::Override(h) => sum(b.overrides, h.0),
+        Element::Global(h) => sum(b.globals, h.0),
+        Element::Expression(h) => sum(b.expressions, h.0),
+    }
+}
+
+// Is bit i set ? None is past the words' end.
+pub fn contains_bit(marks: &[u64], i: usize) -> bool
+    ensures { λ r. ⌜ r ≡ member (now (marks .entry)) i ⌝ }
+{
+    if i / 64 < marks.len() {
+        let word = marks[i / 64];
+        return (word >> (i % 64)) % 2 == 1;
+    }
+    false
+}
+
+// Sets bit i; past the words' end nothing changes.
+pub fn insert_bit(marks: &mut [u64], i: usize)
+    ensures { λ _. ⌜ Inserted (now (marks .entry)) i (now (marks .exit)) ⌝ }
+{
+    if i / 64 < marks.len() {
+        let w = marks[i / 64];
+        marks[i / 64] = w | (1 << (i % 64));
+    }
+}
+
+// Is the element in the set ?
+pub fn contains(marks: &[u64], b: Bases, x: Element) -> bool
+    ensures { λ r. ⌜ r ≡ member (now (marks .entry)) (bit b (elementOf x)) ⌝ }
+{
+    contains_bit(marks, bit(b, x))
+}
+
+// Puts the element into the set.
+pub fn insert(marks: &mut [u64], b: Bases, x: Element)
+    ensures { λ _. ⌜ Inserted (now (marks .entry)) (bit b (elementOf x)) (now (marks .exit)) ⌝ }
+{
+    insert_bit(marks, bit(b, x));
+}
+
+// Empties the set.
+pub fn clear(marks: &mut [u64])
+    ensures { λ _. ⌜ Cleared (now (marks .entry)) (now (marks .exit)) ⌝ }
+{
+    let mut i = 0;
+    while i < marks.len() {
+        marks[i] = 0;
+        i += 1;
+    }
+}

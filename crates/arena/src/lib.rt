@@ -1,0 +1,35 @@
+// What every later crate says of a module's elements: handles, records, and the set of marked elements.
+pub mod handle_set;
+mod records;
+
+pub use records::Constant;
+pub use records::Expression;
+pub use records::Global;
+pub use records::Mention;
+pub use records::N;
+pub use records::Override;
+pub use records::POOL_LIMIT;
+pub use records::POOL_WIDTH;
+pub use records::Type;
+pub use records::limit;
+pub use records::width;
+
+// A record's place in its area: a kind of handle for each arena, so that none stands where another is wanted.
+pub struct TypeHandle(pub u32);
+
+pub struct ConstantHandle(pub u32);
+
+pub struct OverrideHandle(pub u32);
+
+pub struct GlobalHandle(pub u32);
+
+pub struct ExpressionHandle(pub u32);
+
+// An element of the module: a record of an arena.
+pub enum Element {
+    Type(TypeHandle),
+    Constant(ConstantHandle),
+    Override(OverrideHandle),
+    Global(GlobalHandle),
+    Expression(ExpressionHandle),
+}
