@@ -44,7 +44,7 @@ live-append (w ∷ l) r = go (eqb w N) (live-append l r)
     go false e = ap (λ q. w ∷ q) e
 
 -- a word for each record
-map-length : (p : ℕ → Bool) (n : ℕ) → length (mapUpTo p n) ≡ n
+pub map-length : (p : ℕ → Bool) (n : ℕ) → length (mapUpTo p n) ≡ n
 unfolding mapUpTo gather
 map-length p zero = refl
 map-length p (suc n) = length-append (mapUpTo p n) (place p n ∷ []) ∙ ap (λ k. k + 1) (map-length p n) ∙ add-one n

@@ -25,6 +25,20 @@ pub record Areas : Type 0 where
   pub components : Words
   pub mentions : Words
 
+-- the eight areas, in order
+abbrev pub areasOf : Words → Words → Words → Words → Words → Words → Words → Words → Areas
+areasOf t c o g e m k q =
+    record {
+      types = t;
+      constants = c;
+      overrides = o;
+      globals = g;
+      expressions = e;
+      members = m;
+      components = k;
+      mentions = q;
+    }
+
 -- areas 0 to 4, the arenas: their records have handles
 pub data Arena : Type 0 where
   types constants overrides globals expressions : Arena

@@ -1,0 +1,125 @@
+-- What is asked of all slots of a record can be asked of its shape.
+-- Assumes nothing.
+use mathlib.Core.Path.{_≡_, refl, sym, ap, _∙_}
+use mathlib.Core.Bool.{Bool, true, _&&_}
+use mathlib.Core.List.{List, [], _∷_, _++_}
+use Prim.Native.Nat.{ℕ, zero, suc, _+_, _/_, _%_, _≤_}
+use native.Mathlib.Nat.{le-refl, le-trans, le-of-suc-le-suc, not-suc-le-zero}
+use native.Mathlib.Omega.{arith}
+use lib.ListN.{length, take, drop, length-append}
+use Rattle.definitions.specs.Areas.{Areas, Arena, types, constants, overrides, globals, expressions, width, word, pool}
+use Rattle.definitions.specs.Slots.{Slot, unused, free, fill, body, tag, slots}
+use Rattle.definitions.specs.References.{hasRun, span, run, namedBy, namedFrom}
+use Rattle.definitions.specs.Refusals.{every}
+use Rattle.definitions.proofs.Reading.{length-slots}
+use Rattle.slots.specs.Codes.{unpacked, decoded, codes, spanIn, runIn}
+
+-- a body has one word less than the record, its tag
+pub body-length : (a : Arena) (f : ℕ → ℕ) → length (body a f) + 1 ≡ width a
+unfolding slots
+body-length a f = sym (length-append (body a f) tag) ∙ length-slots a f
+
+body-le : (a : Arena) (f : ℕ → ℕ) → length (body a f) ≤ 10
+unfolding width
+body-le a f = go a (body-length a f)
+  where
+    go : (a : Arena) {n : ℕ} → n + 1 ≡ width a → n ≤ 10
+    go types e = omega arith
+    go constants e = omega arith
+    go overrides e = omega arith
+    go globals e = omega arith
+    go expressions e = omega arith
+
+take-unpacked : (v n m : ℕ) → n ≤ m → take n (unpacked v m) ≡ unpacked v n
+unfolding unpacked
+take-unpacked v zero m h = refl
+take-unpacked v (suc n) zero h = absurd (not-suc-le-zero h)
+take-unpacked v (suc n) (suc m) h = ap (λ r. decoded (v % 16) ∷ r) (take-unpacked (v / 16) n m (le-of-suc-le-suc h))
+
+take-fill : (l : List Slot) (n m : ℕ) → n ≤ m → take n (fill m l) ≡ fill n l
+unfolding fill
+take-fill l zero m h = refl
+take-fill l (suc n) zero h = absurd (not-suc-le-zero h)
+take-fill [] (suc n) (suc m) h = ap (λ r. unused ∷ r) (take-fill [] n m (le-of-suc-le-suc h))
+take-fill (x ∷ l) (suc n) (suc m) h = ap (λ r. x ∷ r) (take-fill l n m (le-of-suc-le-suc h))
+
+fill-exact : (l : List Slot) → fill (length l) l ≡ l
+unfolding fill
+fill-exact [] = refl
+fill-exact (x ∷ l) = ap (λ r. x ∷ r) (fill-exact l)
+
+-- as many slots as the body has words unpack to the body
+pub body-shape : (a : Arena) (f : ℕ → ℕ) (v n : ℕ) → unpacked v 10 ≡ fill 10 (body a f) → n + 1 ≡ width a → unpacked v n ≡ body a f
+body-shape a f v n e w =
+    let q : n ≡ length (body a f) = omega (arith, body-length a f) in
+    sym (take-unpacked v n 10 (rw q (body-le a f))) ∙ ap (take n) e ∙ take-fill (body a f) n 10 (rw q (body-le a f)) ∙ rw q (fill-exact (body a f))
+
+module _ (p : Slot → ℕ → Bool) (f : ℕ → ℕ) where
+  -- a test that every unused slot passes is asked of the named ones alone
+  every-fill : ((w : ℕ) → p unused w ≡ true) → (n : ℕ) (l : List Slot) (k : ℕ) → length l ≤ n → every p f k (fill n l) ≡ every p f k l
+  unfolding fill every
+  every-fill u zero [] k h = refl
+  every-fill u zero (x ∷ l) k h = absurd (not-suc-le-zero h)
+  every-fill u (suc n) [] k h = rw (u (f k)) (every-fill u n [] (suc k) (omega arith))
+  every-fill u (suc n) (x ∷ l) k h = ap (λ b. p x (f k) && b) (every-fill u n l (suc k) (le-of-suc-le-suc h))
+
+  -- and of no tag, where every free slot passes
+  every-tag : ((w : ℕ) → p free w ≡ true) → (l : List Slot) (k : ℕ) → every p f k (l ++ tag) ≡ every p f k l
+  unfolding every
+  every-tag t [] k = rw (t (f k))
+  every-tag t (x ∷ l) k = ap (λ b. p x (f k) && b) (every-tag t l (suc k))
+
+  -- of a shape that has run out nothing is asked
+  pub every-none : ((w : ℕ) → p unused w ≡ true) → (n k : ℕ) → every p f k (unpacked 0 n) ≡ true
+  unfolding unpacked decoded codes every
+  every-none u zero k = refl
+  every-none u (suc n) k = rw (u (f k)) (every-none u n (suc k))
+
+  -- so it is asked of the shape
+  pub every-shape : ((w : ℕ) → p unused w ≡ true) → ((w : ℕ) → p free w ≡ true) → (a : Arena) (v : ℕ) → unpacked v 10 ≡ fill 10 (body a f)
+      → every p f 0 (slots a f) ≡ every p f 0 (unpacked v 10)
+  unfolding slots
+  every-shape u t a v e = every-tag t (body a f) 0 ∙ sym (every-fill u 10 (body a f) 0 (body-le a f)) ∙ ap (every p f 0) (sym e)
+
+  -- and where an unused slot may fail, of as many slots as the body has words
+  pub every-body : ((w : ℕ) → p free w ≡ true) → (a : Arena) (v n : ℕ) → unpacked v 10 ≡ fill 10 (body a f) → n + 1 ≡ width a
+      → every p f 0 (slots a f) ≡ every p f 0 (unpacked v n)
+  unfolding slots
+  every-body t a v n e w = every-tag t (body a f) 0 ∙ ap (every p f 0) (sym (body-shape a f v n e w))
+
+module _ (f : ℕ → ℕ) where
+  named-fill : (n : ℕ) (l : List Slot) (k : ℕ) → length l ≤ n → namedFrom f k (fill n l) ≡ namedFrom f k l
+  unfolding fill namedFrom namedBy
+  named-fill zero [] k h = refl
+  named-fill zero (x ∷ l) k h = absurd (not-suc-le-zero h)
+  named-fill (suc n) [] k h = named-fill n [] (suc k) (omega arith)
+  named-fill (suc n) (x ∷ l) k h = ap (λ r. namedBy x (f k) ++ r) (named-fill n l (suc k) (le-of-suc-le-suc h))
+
+  named-tag : (l : List Slot) (k : ℕ) → namedFrom f k (l ++ tag) ≡ namedFrom f k l
+  unfolding namedFrom namedBy
+  named-tag [] k = refl
+  named-tag (x ∷ l) k = ap (λ r. namedBy x (f k) ++ r) (named-tag l (suc k))
+
+  -- a shape that has run out names nothing
+  pub named-none : (n k : ℕ) → namedFrom f k (unpacked 0 n) ≡ []
+  unfolding unpacked decoded codes namedFrom namedBy
+  named-none zero k = refl
+  named-none (suc n) k = named-none n (suc k)
+
+  -- what a record's slots name, its shape names
+  pub named-shape : (a : Arena) (v : ℕ) → unpacked v 10 ≡ fill 10 (body a f) → namedFrom f 0 (slots a f) ≡ namedFrom f 0 (unpacked v 10)
+  unfolding slots
+  named-shape a v e = named-tag (body a f) 0 ∙ sym (named-fill 10 (body a f) 0 (body-le a f)) ∙ ap (namedFrom f 0) (sym e)
+
+-- the count of a record's run, and the run, in the module
+pub span-in : (s : Areas) (a : Arena) (h : ℕ) → span s a h ≡ spanIn a (word s a h)
+unfolding span hasRun spanIn
+span-in s types h = refl
+span-in s constants h = refl
+span-in s overrides h = refl
+span-in s globals h = refl
+span-in s expressions h = refl
+
+pub run-in : (s : Areas) (a : Arena) (h : ℕ) → run s a h ≡ runIn a (word s a h) (pool s a)
+unfolding run runIn
+run-in s a h = ap (λ n. take n (drop (word s a h 2) (pool s a))) (span-in s a h)

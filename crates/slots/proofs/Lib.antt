@@ -1,0 +1,3 @@
+-- The laws that callers cite.
+pub mod Decision
+pub mod Laws
