@@ -1,0 +1,9 @@
+-- The laws of live words, that each contract allows one outcome, and the walks of the functions over a reader.
+pub mod Live
+pub mod Once
+pub mod Numbers
+pub mod Forward
+pub mod Reader
+pub mod One
+pub mod Two
+pub mod Steps

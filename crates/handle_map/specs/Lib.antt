@@ -1,0 +1,3 @@
+-- What the contracts cite besides document 01's definitions.
+pub mod Answers
+pub mod FromSet
