@@ -1,3 +1,4 @@
 -- The laws that callers cite.
 pub mod Decision
+pub mod Numbered
 pub mod Laws

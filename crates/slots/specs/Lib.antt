@@ -1,1 +1,3 @@
+-- What the contracts cite besides the definitions of document 01.
 pub mod Codes
+pub mod Part

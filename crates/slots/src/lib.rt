@@ -2,15 +2,20 @@
 ghost use mathlib.Core.Path.{_≡_};
 ghost use Prim.Native.Nat.{_+_, _%_, min};
 ghost use lib.ListN.{getD, take, drop};
-ghost use Rattle.definitions.specs.Areas.{numbered, at};
+ghost use Rattle.definitions.specs.Areas.{numbered, at, width};
 ghost use Rattle.definitions.specs.Slots.{formOf, fill, body, typeBody, exprBody};
 ghost use Rattle.slots.specs.Codes.{decoded, unpacked, arenaOf, slotOf, wordsFrom, spanIn, runIn};
 ghost use Rattle.arena.specs.Elements.{elementOf};
+use arena::Constant;
 use arena::ConstantHandle;
 use arena::Element;
+use arena::Expression;
 use arena::ExpressionHandle;
+use arena::Global;
 use arena::GlobalHandle;
+use arena::Override;
 use arena::OverrideHandle;
+use arena::Type;
 use arena::TypeHandle;
 
 // The five arenas.
@@ -203,4 +208,30 @@ pub fn run<'a>(area: u32, ws: &[u32], at: usize, pool: &'a [u32]) -> &'a [u32]
         pool.len(),
     );
     &pool[start..end]
+}
+
+// The arena of an area.
+pub fn arena_at(area: u32) -> Arena
+    ensures { λ r. ⌜ arenaOf r ≡ numbered area ⌝ }
+{
+    match area {
+        0 => Arena::Types,
+        1 => Arena::Constants,
+        2 => Arena::Overrides,
+        3 => Arena::Globals,
+        _ => Arena::Expressions,
+    }
+}
+
+// The width of its records.
+pub fn arena_width(area: u32) -> usize
+    ensures { λ r. ⌜ r ≡ width (numbered area) ⌝ }
+{
+    match area {
+        0 => Type::WIDTH,
+        1 => Constant::WIDTH,
+        2 => Override::WIDTH,
+        3 => Global::WIDTH,
+        _ => Expression::WIDTH,
+    }
 }

@@ -2,11 +2,12 @@
 -- Assumes nothing.
 use mathlib.Core.Path.{_≡_, refl, sym, ap, ap₂, _∙_}
 use mathlib.Core.List.{[], _∷_}
-use Prim.Native.Nat.{ℕ, zero, suc}
-use Rattle.definitions.specs.Areas.{numbered, expressions}
+use Prim.Native.Nat.{ℕ}
+use Rattle.definitions.specs.Areas.{numbered}
 use Rattle.definitions.specs.Slots.{fill, body, typeBody, exprBody}
 use Rattle.slots.specs.Codes.{codes, decoded, unpacked, wordsFrom}
-use Rattle.slots.proofs.Decision.{NoneOf, at-keys}
+use Rattle.slots.proofs.Decision.{at-keys}
+use Rattle.slots.proofs.Numbered.{past-three}
 use borrow.Author.Needs.{needs}
 use Rattle.slots.proofs.shape.Statement.{statement}
 use Rattle.slots.proofs.shape.Tie as tie
@@ -14,16 +15,6 @@ use Rattle.slots.proofs.shape.Tie as tie
 -- the shape v is that of the area's records
 abbrev Right : ℕ → (ℕ → ℕ) → ℕ → Type 0
 Right v f area = unpacked v 10 ≡ fill 10 (body (numbered area) f)
-
--- an area past 3 is read as the expressions
-others : (area : ℕ) → NoneOf ((3 ∷ []) ∷ (2 ∷ []) ∷ (1 ∷ []) ∷ (0 ∷ []) ∷ []) area → numbered area ≡ expressions
-unfolding numbered
-others zero n = absurd (n .0 .0 .0 .1 refl)
-others (suc zero) n = absurd (n .0 .0 .1 refl)
-others (suc (suc zero)) n = absurd (n .0 .1 refl)
-others (suc (suc (suc zero))) n = absurd (n .1 refl)
-others (suc (suc (suc (suc zero)))) n = refl
-others (suc (suc (suc (suc (suc a))))) n = refl
 
 word-requires : tie.Need-word-requires
 word-requires c κs = search needs
@@ -59,7 +50,7 @@ returns-4 c = at-keys (Right 98 (wordsFrom (c .before .before .args .ws .now) (c
 returns-5 : tie.Need-returns-5
 unfolding body
 returns-5 c =
-    rw (others (c .before .before .before .before .before .args .area) (c .before .before .before .match .rest))
+    rw (past-three (c .before .before .before .before .before .args .area) (c .before .before .before .match .rest))
     (c .expression-shape .ensures ∙ ap₂ (λ k f. fill 10 (exprBody k f)) (c .before .before .word2 .ensures) (c .before .form .ensures))
 
 pub shape-spec : {M : Type 1} → statement M
