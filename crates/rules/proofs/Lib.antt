@@ -1,0 +1,4 @@
+-- The laws that callers cite, and those that several proofs share.
+pub mod Arms
+pub mod Places
+pub mod Laws

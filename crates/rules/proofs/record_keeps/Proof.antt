@@ -1,0 +1,68 @@
+-- `rules::record_keeps` meets its contract: what the rule asks of all words it asks of the slots that the shape names.
+-- Assumes nothing.
+use mathlib.Core.Path.{_≡_, refl, sym, ap, _∙_}
+use mathlib.Core.Bool.{true}
+use Prim.Native.Nat.{ℕ}
+use native.Mathlib.Omega.{arith}
+use borrow.Author.Needs.{needs}
+use Rattle.definitions.specs.Lists.{all}
+use Rattle.definitions.specs.Areas.{Words, numbered}
+use Rattle.definitions.specs.Slots.{free, slots}
+use Rattle.definitions.specs.References.{namedBy}
+use Rattle.definitions.specs.Order.{withBehind}
+use Rattle.definitions.specs.Refusals.{every}
+use Rattle.definitions.proofs.Reading.{width-pos}
+use Rattle.slots.specs.Codes.{wordsFrom}
+use Rattle.slots.proofs.Laws.{every-body}
+use Rattle.rules.specs.declared.Rule.{Rule}
+use Rattle.rules.specs.declared.Rule.the-variants.{Shaped, Held, Ordered}
+use Rattle.rules.specs.Rules.{shapedBy, heldBy, asked}
+use Rattle.rules.proofs.Places.{place-fits, place-words}
+use Rattle.rules.proofs.record_keeps.Statement.{statement}
+use Rattle.rules.proofs.record_keeps.Tie as tie
+
+-- no rule asks anything of a tag
+tag-kept : (c o g : Words) (rule : Rule) (w : ℕ) → asked c o g rule free w ≡ true
+unfolding asked shapedBy heldBy namedBy withBehind all
+tag-kept c o g (Shaped r) w = refl
+tag-kept c o g (Held z) w = refl
+tag-kept c o g (Ordered b) w = refl
+
+arena-width-requires : tie.Need-arena-width-requires
+arena-width-requires c κs = search needs
+
+mul-at : tie.Need-mul-at
+mul-at c =
+    let a = c .before .before .before .before .before .args in
+    place-fits (numbered (a .area)) (a .i) _ (omega arith) (c .arena-width .ensures)
+
+shape-requires : tie.Need-shape-requires
+shape-requires c κs = search needs
+
+sub-slots-keep : tie.Need-sub-slots-keep
+sub-slots-keep c = omega (arith, c .before .arena-width .ensures, width-pos (numbered (c .before .before .before .before .before .before .args .area)))
+
+slots-keep-requires : tie.Need-slots-keep-requires
+slots-keep-requires c κs = search needs
+
+returns : tie.Need-returns
+returns c =
+    let a = c .before .before .before .before .before .before .before .args in
+    let w = c .before .before .arena-width .ensures in
+    let p = asked (a .constants .now) (a .overrides .now) (a .globals .now) (a .rule) in
+    c .slots-keep .ensures
+    ∙ sym
+    (every-body p (wordsFrom (a .ws .now) _) (tag-kept _ _ _ _) (numbered (a .area)) _ _ (c .before .shape .ensures)
+    (omega (arith, w, width-pos (numbered (a .area)))))
+    ∙ ap (λ f. every p f 0 (slots (numbered (a .area)) f)) (place-words (a .ws .now) (numbered (a .area)) (a .i) w)
+
+pub record-keeps-spec : {M : Type 1} → statement M
+record-keeps-spec =
+    tie.close
+    (tie.spec
+    arena-width-requires
+    mul-at
+    shape-requires
+    sub-slots-keep
+    slots-keep-requires
+    returns)

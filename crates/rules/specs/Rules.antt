@@ -1,0 +1,74 @@
+-- What the contracts of this crate cite beside the definitions of document 01: numbers 4, 6 and 7 of one record.
+-- Assumes nothing.
+use mathlib.Core.Bool.{Bool, true, _&&_, _||_, cond}
+use Prim.Native.Nat.{ℕ, zero, suc, _+_}
+use lib.Dec.{eqb, ltb, leb}
+use Rattle.definitions.specs.Lists.{all}
+use Rattle.definitions.specs.Areas.{Words, N, Arena, Areas, Elem, at, types, constants, overrides, globals, expressions, size}
+use Rattle.definitions.specs.Slots.{Slot, unused, free, below, must, may, start, count}
+use Rattle.definitions.specs.References.{namedBy}
+use Rattle.definitions.specs.Order.{sizedBy, withBehind}
+use Rattle.slots.specs.Part.{part}
+use Rattle.rules.specs.declared.Sizes.{Sizes}
+use Rattle.rules.specs.declared.Bounds.{Bounds}
+use Rattle.rules.specs.declared.Run.{Run}
+use Rattle.rules.specs.declared.Rule.{Rule}
+use Rattle.rules.specs.declared.Rule.the-variants.{Shaped, Held, Ordered}
+
+-- how many records the arena has
+abbrev pub sizeIn : Sizes → Arena → ℕ
+sizeIn z types = z .types
+sizeIn z constants = z .constants
+sizeIn z overrides = z .overrides
+sizeIn z globals = z .globals
+sizeIn z expressions = z .expressions
+
+-- the sizes of a module
+abbrev pub sizesOf : Areas → Sizes
+sizesOf s =
+    record {
+      types = size s types;
+      constants = size s constants;
+      overrides = size s overrides;
+      globals = size s globals;
+      expressions = size s expressions;
+    }
+
+-- number 4: `shaped`, given the sum of the counts before, the record's own count and the pool's length
+unfoldable pub shapedBy : Run → Slot → ℕ → Bool
+shapedBy r unused w = eqb w N
+shapedBy r free w = true
+shapedBy r (below n) w = ltb w n
+shapedBy r (must b) w = true
+shapedBy r (may b) w = true
+shapedBy r start w = eqb w (r .sum) && leb (w + r .span) (r .room)
+shapedBy r count w = true
+
+-- number 6: `held`, given how many records each arena has
+unfoldable pub heldBy : (Arena → ℕ) → Slot → ℕ → Bool
+heldBy n unused w = true
+heldBy n free w = true
+heldBy n (below k) w = true
+heldBy n (must a) w = ltb w (n a)
+heldBy n (may a) w = cond (eqb w N) true (ltb w (n a))
+heldBy n start w = true
+heldBy n count w = true
+
+-- number 7: `later`, given below which type and which expression an element must lie, if it must
+unfoldable pub within : Bounds → Elem → Bool
+within b (at types u) = b .«every_type» || ltb u (b .types)
+within b (at constants h) = true
+within b (at overrides h) = true
+within b (at globals h) = true
+within b (at expressions i) = b .«every_expression» || ltb i (b .expressions)
+
+-- what a rule asks of a word; the constants, overrides and globals are what may stand behind it
+unfoldable pub asked : Words → Words → Words → Rule → Slot → ℕ → Bool
+asked c o g (Shaped r) l w = shapedBy r l w
+asked c o g (Held z) l w = heldBy (sizeIn z) l w
+asked c o g (Ordered b) l w = all (within b) (withBehind (part c o g) (namedBy l w))
+
+-- the types up to the first that is sized by an override with an init not below e: n of them at most, from t on
+unfoldable pub leading : Areas → ℕ → ℕ → ℕ → ℕ
+leading s e t zero = t
+leading s e t (suc n) = cond (leb (sizedBy s t) e) (leading s e (suc t) n) t

@@ -1,0 +1,308 @@
+// One record under numbers 4, 6 and 7: what is asked of its words and of its run.
+ghost use mathlib.Core.Path.{_≡_};
+ghost use mathlib.Core.Bool.{true, _||_};
+ghost use mathlib.Core.List.{[], _∷_};
+ghost use Prim.Native.Nat.{ℕ, _-_};
+ghost use lib.Dec.{eqb, ltb};
+ghost use Rattle.definitions.specs.Areas.{Words, N, areasOf, numbered, width, wordOf, at, types, expressions};
+ghost use Rattle.definitions.specs.Lists.{all, any, total};
+ghost use Rattle.definitions.specs.Slots.{unused, slots};
+ghost use Rattle.definitions.specs.References.{namedBy};
+ghost use Rattle.definitions.specs.Order.{withBehind, sizedBy};
+ghost use Rattle.definitions.specs.Refusals.{every};
+ghost use Rattle.arena.specs.Elements.{elementOf};
+ghost use Rattle.slots.specs.Codes.{unpacked, wordsFrom, arenaOf, slotOf, spanIn};
+ghost use Rattle.slots.specs.Part.{part};
+ghost use Rattle.rules.specs.Rules.{sizeIn, shapedBy, heldBy, within, asked, leading};
+use arena::Constant;
+use arena::Element;
+use arena::ExpressionHandle;
+use arena::Global;
+use arena::N;
+use arena::Override;
+use arena::OverrideHandle;
+use arena::Type;
+use arena::TypeHandle;
+use slots::Arena;
+use slots::Slot;
+
+// How many records each arena has.
+pub struct Sizes {
+    pub types: u32,
+    pub constants: u32,
+    pub overrides: u32,
+    pub globals: u32,
+    pub expressions: u32,
+}
+
+// The counts before a record's run, as far as a word can equal them, its own count, and its pool's length.
+pub struct Run {
+    pub sum: usize,
+    pub span: u32,
+    pub room: usize,
+}
+
+// Below which type and which expression an element that is referred to must lie, unless every one may be.
+pub struct Bounds {
+    pub types: u32,
+    pub every_type: bool,
+    pub expressions: u32,
+    pub every_expression: bool,
+}
+
+// What is asked of a record's words: under number 4, 6, 7.
+pub enum Rule {
+    Shaped(Run),
+    Held(Sizes),
+    Ordered(Bounds),
+}
+
+pub fn size_in(z: Sizes, arena: Arena) -> u32
+    ensures { λ r. ⌜ r ≡ sizeIn z (arenaOf arena) ⌝ }
+{
+    match arena {
+        Arena::Types => z.types,
+        Arena::Constants => z.constants,
+        Arena::Overrides => z.overrides,
+        Arena::Globals => z.globals,
+        Arena::Expressions => z.expressions,
+    }
+}
+
+fn shaped(run: Run, slot: Slot, w: u32) -> bool
+    ensures { λ r. ⌜ r ≡ shapedBy run (slotOf slot) w ⌝ }
+{
+    match slot {
+        Slot::Unused => w == N,
+        Slot::Below(n) => w < n,
+        Slot::Start => w as usize == run.sum && w as usize + run.span as usize <= run.room,
+        _ => true,
+    }
+}
+
+fn held(z: Sizes, slot: Slot, w: u32) -> bool
+    ensures { λ r. ⌜ r ≡ heldBy (sizeIn z) (slotOf slot) w ⌝ }
+{
+    match slot {
+        Slot::Must(arena) => w < size_in(z, arena),
+        Slot::May(arena) => w == N || w < size_in(z, arena),
+        _ => true,
+    }
+}
+
+fn type_within(b: Bounds, t: TypeHandle) -> bool
+    ensures { λ r. ⌜ r ≡ within b (at types (t .0)) ⌝ }
+{
+    b.every_type || t.0 < b.types
+}
+
+fn expression_within(b: Bounds, e: ExpressionHandle) -> bool
+    ensures { λ r. ⌜ r ≡ within b (at expressions (e .0)) ⌝ }
+{
+    b.every_expression || e.0 < b.expressions
+}
+
+fn init_within(b: Bounds, e: ExpressionHandle) -> bool
+    ensures { λ r. ⌜ r ≡ (eqb (e .0) N || within b (at expressions (e .0))) ⌝ }
+{
+    e.0 == N || expression_within(b, e)
+}
+
+// Do an element and all that stands behind it lie within the bounds ?
+fn element_within(
+    b: Bounds,
+    x: Element,
+    constants: &[u32],
+    overrides: &[u32],
+    globals: &[u32],
+) -> bool
+    ensures { λ r. ⌜ r ≡ all (within b) (withBehind (part (now (constants .entry)) (now (overrides .entry)) (now (globals .entry))) (elementOf x ∷ [])) ⌝ }
+{
+    match x {
+        Element::Type(h) => type_within(b, h),
+        Element::Constant(h) => {
+            type_within(b, Constant::ty(constants, h))
+                && expression_within(b, Constant::init(constants, h))
+        }
+        Element::Override(h) => {
+            type_within(b, Override::ty(overrides, h))
+                && init_within(b, Override::init(overrides, h))
+        }
+        Element::Global(h) => type_within(b, Global::ty(globals, h))
+            && init_within(b, Global::init(globals, h)),
+        Element::Expression(h) => expression_within(b, h),
+    }
+}
+
+fn ordered(
+    b: Bounds,
+    slot: Slot,
+    w: u32,
+    constants: &[u32],
+    overrides: &[u32],
+    globals: &[u32],
+) -> bool
+    ensures { λ r. ⌜ r ≡ all (within b) (withBehind (part (now (constants .entry)) (now (overrides .entry)) (now (globals .entry))) (namedBy (slotOf slot) w)) ⌝ }
+{
+    match slot {
+        Slot::Must(arena) => element_within(
+            b,
+            slots::element(arena, w),
+            constants,
+            overrides,
+            globals,
+        ),
+        Slot::May(arena) => w == N
+            || element_within(b, slots::element(arena, w), constants, overrides, globals),
+        _ => true,
+    }
+}
+
+// Does a word keep the rule ?
+fn keeps(
+    rule: Rule,
+    slot: Slot,
+    w: u32,
+    constants: &[u32],
+    overrides: &[u32],
+    globals: &[u32],
+) -> bool
+    ensures { λ r. ⌜ r ≡ asked (now (constants .entry)) (now (overrides .entry)) (now (globals .entry)) rule (slotOf slot) w ⌝ }
+{
+    match rule {
+        Rule::Shaped(run) => shaped(run, slot, w),
+        Rule::Held(z) => held(z, slot, w),
+        Rule::Ordered(b) => ordered(b, slot, w, constants, overrides, globals),
+    }
+}
+
+// May the words past the last named slot be passed over ? Only number 4 asks anything of them.
+fn lenient(rule: Rule) -> bool
+    ensures { λ r. ⌜ (r ≡ true → (c o g : Words) (w : ℕ) → asked c o g rule unused w ≡ true) ⌝ }
+{
+    match rule {
+        Rule::Shaped(_) => false,
+        _ => true,
+    }
+}
+
+// Do the first n words of the record that starts at a place keep the rule ?
+fn slots_keep(
+    rule: Rule,
+    ws: &[u32],
+    at: usize,
+    shape: u64,
+    n: usize,
+    constants: &[u32],
+    overrides: &[u32],
+    globals: &[u32],
+) -> bool
+    ensures { λ r. ⌜ r ≡ every (asked (now (constants .entry)) (now (overrides .entry)) (now (globals .entry)) rule) (wordsFrom (now (ws .entry)) at) 0 (unpacked shape n) ⌝ }
+{
+    let mut rest = shape;
+    let mut k = 0;
+    while k < n {
+        if rest == 0 && lenient(rule) {
+            return true;
+        }
+        if !keeps(
+            rule,
+            slots::first(rest),
+            slots::word(ws, at, k),
+            constants,
+            overrides,
+            globals,
+        ) {
+            return false;
+        }
+        rest = rest / 16;
+        k += 1;
+    }
+    true
+}
+
+// Do the words of record i keep the rule ?
+pub fn record_keeps(
+    rule: Rule,
+    area: u32,
+    ws: &[u32],
+    i: u32,
+    constants: &[u32],
+    overrides: &[u32],
+    globals: &[u32],
+) -> bool
+    ensures { λ r. ⌜ r ≡ every (asked (now (constants .entry)) (now (overrides .entry)) (now (globals .entry)) rule) (wordOf (now (ws .entry)) (numbered area) i) 0 (slots (numbered area) (wordOf (now (ws .entry)) (numbered area) i)) ⌝ }
+{
+    let width = slots::arena_width(area);
+    let at = i as usize * width;
+    slots_keep(
+        rule,
+        ws,
+        at,
+        slots::shape(area, ws, at),
+        width - 1,
+        constants,
+        overrides,
+        globals,
+    )
+}
+
+// Are all handles of a run below the bound ?
+pub fn all_below(run: &[u32], bound: u32) -> bool
+    ensures { λ r. ⌜ r ≡ all (λ w. ltb w bound) (now (run .entry)) ⌝ }
+{
+    let mut i = 0;
+    while i < run.len() {
+        if bound <= run[i] {
+            return false;
+        }
+        i += 1;
+    }
+    true
+}
+
+// Do the counts of the runs of the first n records of an arena add up to the pool's length ?
+pub fn pool_used(area: u32, ws: &[u32], n: u32, room: usize) -> bool
+    ensures { λ r. ⌜ r ≡ eqb (total any (λ h. spanIn (numbered area) (wordOf (now (ws .entry)) (numbered area) h)) n) room ⌝ }
+{
+    let width = slots::arena_width(area);
+    let mut left = room;
+    let mut i = 0;
+    while i < n {
+        let span = slots::span(area, ws, i as usize * width) as usize;
+        if left < span {
+            return false;
+        }
+        left = left - span;
+        i += 1;
+    }
+    left == 0
+}
+
+// One more than the init of the override that sizes type t; 0 where there is none.
+pub fn sized(types: &[u32], overrides: &[u32], t: TypeHandle) -> usize
+    ensures { λ r. ⌜ r ≡ sizedBy (areasOf (now (types .entry)) [] (now (overrides .entry)) [] [] [] [] []) (t .0) ⌝ }
+{
+    if Type::kind(types, t) == 2 {
+        let init = Override::init(overrides, OverrideHandle(Type::b(types, t)));
+        if init.0 == N {
+            return 0;
+        }
+        return init.0 as usize + 1;
+    }
+    0
+}
+
+// From type t on, the first of n types that is sized by an override with an init not below expression e.
+pub fn prefix(types: &[u32], overrides: &[u32], t: u32, n: u32, e: u32) -> u32
+    ensures { λ r. ⌜ r ≡ leading (areasOf (now (types .entry)) [] (now (overrides .entry)) [] [] [] [] []) e t (n - t) ⌝ }
+{
+    let mut u = t;
+    while u < n {
+        if (e as usize) < sized(types, overrides, TypeHandle(u)) {
+            return u;
+        }
+        u += 1;
+    }
+    u
+}
