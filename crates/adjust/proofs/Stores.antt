@@ -1,0 +1,126 @@
+-- Words stored one after another, and a pass that closes up in place what passes a test.
+-- Assumes nothing.
+use mathlib.Core.Path.{_≡_, refl, sym, ap, _∙_}
+use mathlib.Core.Bool.{Bool, true, false}
+use mathlib.Core.List.{[], _∷_, _++_, append-nil}
+use Prim.Native.Nat.{ℕ, suc, _+_, _-_, _≤_}
+use native.Mathlib.Nat.{add-zero}
+use native.Mathlib.Numerals.{add-one}
+use native.Mathlib.Omega.{arith}
+use lib.ListN.{length, getD, take, drop, set, replicate, length-append, length-set, length-drop, drop-of-length-le}
+use lib.Seq.{sets, sets-eq, length-sets, take-at, drop-set-lt, getD-set-other, length-take-le, drop-drop}
+use borrow.Rule.Slice.PartMut.{putMid, midOf, postOf}
+use Rattle.definitions.specs.Lists.{gather}
+use Rattle.definitions.specs.Areas.{Words, N}
+use Rattle.definitions.specs.Records.{padded}
+
+-- ---- one after another
+
+-- of the words `all`, due at `to`, k are stored and those `left` are not; what lies ahead is as it was
+pub record Storing (old new : Words) (to k : ℕ) (left all : Words) : Type 0 where
+  pub same : length new ≡ length old
+  pub ahead : (j : ℕ) → to + k ≤ j → getD new j 0 ≡ getD old j 0
+  pub todo : sets new (to + k) left ≡ sets old to all
+
+pub none-stored : (old : Words) (to : ℕ) (left all : Words) → left ≡ all → Storing old old to 0 left all
+none-stored old to left all e = record { same = refl; ahead = λ j l. refl; todo = ap (λ i. sets old i left) (add-zero to) ∙ ap (sets old to) e }
+
+pub one-stored : (old new : Words) (to k v : ℕ) (left more all : Words) → left ≡ v ∷ more → Storing old new to k left all
+    → Storing old (set new (to + k) v) to (k + 1) more all
+one-stored old new to k v left more all e s =
+    let next : to + (k + 1) ≡ suc (to + k) = omega arith in
+    record {
+      same = length-set new (to + k) v ∙ s .same;
+      ahead = λ j l. getD-set-other new (to + k) j v 0 (λ q. omega arith) ∙ s .ahead j (omega arith);
+      todo = ap (λ i. sets (set new (to + k) v) i more) next ∙ ap (sets new (to + k)) (sym e) ∙ s .todo;
+    }
+
+pub all-stored : (old new : Words) (to k : ℕ) (left all : Words) → left ≡ [] → Storing old new to k left all → new ≡ sets old to all
+all-stored old new to k left all e s = ap (sets new (to + k)) (sym e) ∙ s .todo
+
+-- ---- closing up
+
+-- what stands before the end of a run of stores
+take-sets : (l : Words) (i : ℕ) (vs : Words) → i + length vs ≤ length l → take (i + length vs) (sets l i vs) ≡ take i l ++ vs
+take-sets l i vs h =
+    ap (take (i + length vs)) (sets-eq vs l i h)
+    ∙ take-at (take i l ++ vs) _ _ (length-append (take i l) vs ∙ ap (λ k. k + length vs) (length-take-le i l (omega arith)))
+
+-- what stands past a run of stores
+drop-sets : (vs l : Words) (i k : ℕ) → i + length vs ≤ k → drop k (sets l i vs) ≡ drop k l
+drop-sets [] l i k h = refl
+drop-sets (v ∷ vs) l i k h = drop-sets vs (set l i v) (suc i) k (omega arith) ∙ drop-set-lt k l i v (omega arith)
+
+drop-more : (d n : ℕ) (l m : Words) → drop d l ≡ drop d m → drop (d + n) l ≡ drop (d + n) m
+drop-more d n l m e = sym (drop-drop n d l) ∙ ap (drop n) e ∙ drop-drop n d m
+
+module _ (p : ℕ → Bool) (f : ℕ → Words) (old : Words) where
+  -- the words before `from` are read, which is those of the first h; what these leave is written, `to` words; the rest is as it was
+  pub record Partly (new : Words) (from to h : ℕ) : Type 0 where
+    pub low : to ≤ from
+    pub high : from ≤ length old
+    pub same : length new ≡ length old
+    pub done : take to new ≡ gather p f h
+    pub rest : drop from new ≡ drop from old
+
+  pub begun : Partly old 0 0 0
+  unfolding gather
+  begun = record { low = omega arith; high = omega arith; same = refl; done = refl; rest = refl }
+
+  gather-kept : (h : ℕ) → p h ≡ true → gather p f (h + 1) ≡ gather p f h ++ f h
+  unfolding gather
+  gather-kept h e = rw (add-one h, e)
+
+  gather-dropped : (h : ℕ) → p h ≡ false → gather p f (h + 1) ≡ gather p f h
+  unfolding gather
+  gather-dropped h e = rw (add-one h, e) (append-nil (gather p f h))
+
+  module _ (new : Words) (from to h n : ℕ) (fits : from + n ≤ length old) (part : Partly new from to h) where
+    pub dropped : p h ≡ false → Partly new (from + n) to (h + 1)
+    dropped e =
+        record {
+          low = omega (arith, part .low);
+          high = fits;
+          same = part .same;
+          done = part .done ∙ sym (gather-dropped h e);
+          rest = drop-more from n new old (part .rest);
+        }
+
+    pub moved : (new′ : Words) (to′ : ℕ) → p h ≡ true → length (f h) ≡ n → new′ ≡ sets new to (f h) → to′ ≡ to + n → Partly new′ (from + n) to′ (h + 1)
+    moved new′ to′ e len q t =
+        let room : to + length (f h) ≤ length new = omega (arith, part .low, part .same) in
+        let all : to′ ≡ to + length (f h) = t ∙ ap (λ k. to + k) (sym len) in
+        record {
+          low = omega (arith, part .low);
+          high = fits;
+          same = ap length q ∙ length-sets new to (f h) ∙ part .same;
+          done =
+              ap (λ k. take k new′) all ∙ ap (take (to + length (f h))) q ∙ take-sets new to (f h) room ∙ ap (λ l. l ++ f h) (part .done)
+              ∙ sym (gather-kept h e);
+          rest = ap (drop (from + n)) q ∙ drop-sets (f h) new to (from + n) (omega (arith, part .low)) ∙ drop-more from n new old (part .rest);
+        }
+
+  -- and N to the old end
+  pub ended : (new last : Words) (from to h : ℕ) → Partly new from to h → last ≡ take to new ++ replicate (length new - to) N → last ≡ padded old (gather p f h)
+  unfolding padded
+  ended new last from to h part e =
+      let len : to ≡ length (gather p f h) = sym (length-take-le to new (omega (arith, part .low, part .high, part .same))) ∙ ap length (part .done) in
+      cc (part .done, part .same)
+
+-- ---- filling
+
+-- a list filled to its end
+pub filled : (old new : Words) (i : ℕ) → length old ≤ i → i ≤ length old → new ≡ replicate i N ++ drop i old → new ≡ replicate (length old) N
+filled old new i g h e =
+    let k : i ≡ length old = omega arith in
+    e ∙ ap (λ l. replicate i N ++ l) (drop-of-length-le old g) ∙ append-nil _ ∙ ap (λ n. replicate n N) k
+
+-- a list whose tail, lent as a part, came back filled
+pub tail-filled : (l : Words) (to : ℕ) (part : Words) → to ≤ length l → part ≡ replicate (length (midOf to (length l - to) l)) N
+    → putMid to (length l - to) l part ≡ take to l ++ replicate (length l - to) N
+tail-filled l to part h e =
+    let d : length (drop to l) ≡ length l - to = length-drop to l in
+    let m : length (midOf to (length l - to) l) ≡ length l - to = length-take-le (length l - to) (drop to l) (omega arith) in
+    let q : length (drop to l) ≤ length l - to = omega arith in
+    let none : postOf to (length l - to) l ≡ [] = drop-of-length-le (drop to l) q in
+    ap (λ x. take to l ++ (part ++ x)) none ∙ ap (λ x. take to l ++ x) (append-nil part ∙ e ∙ ap (λ n. replicate n N) m)

@@ -1,0 +1,136 @@
+-- `adjust::adjust_pool` meets its contract: after h turns the pass stands as `Packing` says.
+-- Assumes nothing.
+use mathlib.Core.Path.{_≡_, sym, _∙_}
+use mathlib.Core.Logic.{⊎-elim}
+use Prim.Native.Nat.{_+_, _-_, _≤_, _<_, min}
+use native.Mathlib.Nat.{div-le-self}
+use native.Mathlib.Omega.{arith}
+use lib.ListN.{length}
+use Rattle.definitions.specs.Areas.{numbered}
+use Rattle.definitions.proofs.Reading.{width-pos}
+use Rattle.adjust.proofs.Stores.{tail-filled}
+use Rattle.adjust.proofs.Passes.{within, Packing, packing, run-dropped, run-kept, packed}
+use borrow.Author.Needs.{needs}
+use Rattle.adjust.proofs.adjust_pool.Statement.{statement}
+use Rattle.adjust.proofs.adjust_pool.Tie as tie
+
+abbrev Inv-loop : tie.InvT-loop
+Inv-loop area ws pool₀ own width n from₀ to₀ at₀ h₀ pool from to at h = (h ≤ n) × Packing own (numbered area) ws pool₀ width pool from to at h
+
+abbrev μ-loop : tie.MeasureT-loop
+μ-loop area ws pool₀ own width n from₀ to₀ at₀ h₀ pool from to at h = n - h
+
+-- the count of the run, held to what the pool has left
+held : (c : tie.Joined1 Inv-loop μ-loop) → c .if1 .span ≡ min (c .before .span .result) (length (c .before .before .before .before .before .before .before .before .args .pool .now) - c .before .before .before .loop .from)
+held c = ⊎-elim (λ w. omega arith) (λ w. omega arith) (c .if1 .came)
+
+-- so its end fits a `usize`
+fits : (c : tie.Joined1 Inv-loop μ-loop) → c .before .before .before .loop .from + c .if1 .span < 18446744073709551616
+fits c = let s = held c in omega arith
+
+arena-width-requires : tie.Need-arena-width-requires Inv-loop μ-loop
+arena-width-requires c κs = search needs
+
+div-n : tie.Need-div-n Inv-loop μ-loop
+div-n c = let w = width-pos (numbered (c .before .before .before .before .args .area)) in omega (arith, c .arena-width .ensures)
+
+loop-holds : tie.Need-loop-holds Inv-loop μ-loop
+loop-holds c = (search needs, packing _ _ _ _ _)
+
+span-requires : tie.Need-span-requires Inv-loop μ-loop
+span-requires c κs = search needs
+
+cast-span : tie.Need-cast-span Inv-loop μ-loop
+cast-span c = search needs
+
+sub-if1 : tie.Need-sub-if1 Inv-loop μ-loop
+sub-if1 c = search needs
+
+sub-span : tie.Need-sub-span Inv-loop μ-loop
+sub-span c = search needs
+
+kept-at-requires : tie.Need-kept-at-requires Inv-loop μ-loop
+kept-at-requires c κs = search needs
+
+adjust-run-requires : tie.Need-adjust-run-requires Inv-loop μ-loop
+adjust-run-requires c κs = let s = held (c .before .before .before) in omega arith
+
+add-to : tie.Need-add-to Inv-loop μ-loop
+add-to c = let s = fits (c .before .before .before .before .before .before .before) in omega arith
+
+add-from : tie.Need-add-from Inv-loop μ-loop
+add-from c = let s = fits (c .before .before .before) in omega arith
+
+add-at : tie.Need-add-at Inv-loop μ-loop
+add-at c = let r = within _ _ _ _ (c .before .before .before .before .before .before .loop .inv .1 .at-is) (c .before .before .before .before .before .loop-test .taken) in omega arith
+
+add-h : tie.Need-add-h Inv-loop μ-loop
+add-h c = let d = div-le-self (length (c .before .before .before .before .before .before .before .before .before .before .before .args .ws .now)) (c .before .before .before .before .before .before .before .arena-width .result) in omega arith
+
+loop-less : tie.Need-loop-less Inv-loop μ-loop
+loop-less c = search needs
+
+loop-again : tie.Need-loop-again Inv-loop μ-loop
+loop-again c =
+    let l = c .before .before .before .before .before .before .loop in
+    let wide = c .before .before .before .before .before .before .before .arena-width .ensures in
+    let kept = sym (c .before .before .kept-at .ensures) in
+    let s = held (c .before .before .before) in (
+      search needs,
+      ⊎-elim
+          (λ w. run-kept _ _ _ _ _ wide _ _ _ _ _ _ _ (l .inv .1) (c .before .before .before .before .span .ensures) s _ _ (kept ∙ w .0 .taken) (w .6 ∙ w .2 .ensures) (w .7))
+          (λ w. run-dropped _ _ _ _ _ wide _ _ _ _ _ _ _ (l .inv .1) (c .before .before .before .before .span .ensures) s _ _ (kept ∙ w .0 .left) (w .1) (w .2))
+          (c .before .if2 .came),
+    )
+
+mul-fill : tie.Need-mul-fill Inv-loop μ-loop
+mul-fill c = search needs
+
+sub-fill : tie.Need-sub-fill Inv-loop μ-loop
+sub-fill c = search needs
+
+part-fill-start : tie.Need-part-fill-start Inv-loop μ-loop
+part-fill-start c = search needs
+
+part-fill-end : tie.Need-part-fill-end Inv-loop μ-loop
+part-fill-end c = search needs
+
+fill-requires : tie.Need-fill-requires Inv-loop μ-loop
+fill-requires c κs = search needs
+
+same-length : tie.Need-same-length Inv-loop μ-loop
+same-length c = search needs
+
+returns : tie.Need-returns Inv-loop μ-loop
+returns c =
+    let l = c .before .before .before .before .before .loop in
+    packed _ _ _ _ _ _ _ _ _ _ _ (c .before .before .before .before .before .before .arena-width .ensures) (omega arith) (l .inv .1) (tail-filled (l .pool) (l .to) _ (search needs) (c .before .before .fill .ensures))
+
+pub adjust-pool-spec : {M : Type 1} → statement M
+adjust-pool-spec =
+    tie.close
+    (tie.spec
+    Inv-loop
+    μ-loop
+    arena-width-requires
+    div-n
+    loop-holds
+    span-requires
+    cast-span
+    sub-if1
+    sub-span
+    kept-at-requires
+    adjust-run-requires
+    add-to
+    add-from
+    add-at
+    add-h
+    loop-less
+    loop-again
+    mul-fill
+    sub-fill
+    part-fill-start
+    part-fill-end
+    fill-requires
+    same-length
+    returns)

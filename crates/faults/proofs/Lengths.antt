@@ -1,0 +1,58 @@
+-- Numbers 1 to 3: what each asks of an area, and of how many areas.
+-- Assumes nothing.
+use mathlib.Core.Path.{_≡_, refl}
+use mathlib.Core.List.{List}
+use Prim.Native.Nat.{ℕ, zero, suc, _%_, _/_, _≤_, _<_}
+use native.Mathlib.Omega.{arith}
+use lib.Dec.{eqb, leb}
+use lib.ListN.{getD}
+use borrow.Author.Tests.{ne-eqb}
+use Rattle.definitions.specs.Areas.{width, widths, limits}
+use Rattle.faults.specs.Faults.{areaOk, areasAt}
+
+-- numbers 1 and 2 look at all areas
+pub all-areas : (n : ℕ) → 1 ≤ n → n < 3 → areasAt n ≡ 8
+unfolding areasAt
+all-areas zero a b = absurd (omega arith)
+all-areas (suc zero) a b = refl
+all-areas (suc (suc zero)) a b = refl
+all-areas (suc (suc (suc n))) a b = absurd (omega arith)
+
+-- any other at the arenas
+pub arenas : (n : ℕ) → (n ≡ 1 → ⊥) → (n ≡ 2 → ⊥) → areasAt n ≡ 5
+unfolding areasAt
+arenas n p q = rw (ne-eqb n 1 p, ne-eqb n 2 q)
+
+-- so none looks past the last
+pub areas-le : (n : ℕ) → areasAt n ≤ 8
+unfolding areasAt
+areas-le zero = omega arith
+areas-le (suc zero) = omega arith
+areas-le (suc (suc zero)) = omega arith
+areas-le (suc (suc (suc n))) = rw (arenas (suc (suc (suc n))) (λ e. omega arith) (λ e. omega arith)) (omega arith)
+
+-- no record is empty
+pub wide : (a : ℕ) → a < 8 → 0 < getD widths a 1
+unfolding widths width
+wide zero l = omega arith
+wide (suc zero) l = omega arith
+wide (suc (suc zero)) l = omega arith
+wide (suc (suc (suc zero))) l = omega arith
+wide (suc (suc (suc (suc zero)))) l = omega arith
+wide (suc (suc (suc (suc (suc zero))))) l = omega arith
+wide (suc (suc (suc (suc (suc (suc zero)))))) l = omega arith
+wide (suc (suc (suc (suc (suc (suc (suc zero))))))) l = omega arith
+wide (suc (suc (suc (suc (suc (suc (suc (suc a)))))))) l = absurd (omega arith)
+
+module _ (lengths maps : List ℕ) (n a w : ℕ) (e : w ≡ getD widths a 1) where
+  pub whole : n ≡ 1 → eqb (getD lengths a 0 % w) 0 ≡ areaOk lengths maps n a
+  unfolding areaOk
+  whole q = rw (e, q)
+
+  pub few : (m : ℕ) → n ≡ 2 → m ≡ getD limits a 0 → leb (getD lengths a 0 / w) m ≡ areaOk lengths maps n a
+  unfolding areaOk
+  few m q l = rw (e, q, l)
+
+  pub roomy : (n ≡ 1 → ⊥) → (n ≡ 2 → ⊥) → leb (getD lengths a 0 / w) (getD maps a 0) ≡ areaOk lengths maps n a
+  unfolding areaOk
+  roomy p q = rw (e, ne-eqb n 1 p, ne-eqb n 2 q)

@@ -1,0 +1,132 @@
+-- Numbers 1 to 7 in turn: the check of document 01 is that of the code's loops.
+-- Assumes nothing.
+use mathlib.Core.Path.{_≡_, refl, sym, ap, subst, _∙_}
+use mathlib.Core.Bool.{cond}
+use mathlib.Core.List.{List, [], _∷_}
+use Prim.Native.Nat.{ℕ, zero, suc, _+_, _-_, _≤_, _<_}
+use native.Mathlib.Decide.{ℕ-discrete}
+use native.Mathlib.Nat.{le-trans}
+use native.Mathlib.Omega.{arith}
+use lib.Dec.{T, ltb, eqb→eq, leb→le}
+use lib.ListN.{length, getD}
+use borrow.Author.Tests.{lt-ltb, le-ltb}
+use Rattle.definitions.specs.Areas.{Areas, number, numbered, widths, limits, lengthOf, allWords, recordsOf}
+use Rattle.definitions.specs.Refusals.{Verdict, accepted, passes, scan, scanAreas, scanRecords, scanMentions, poolUsed, check1, check2, check3, check4, check5, check6, check7, check}
+use Rattle.definitions.proofs.Accepted.{areas-all}
+use Rattle.faults.specs.declared.Fault.{Fault}
+use Rattle.faults.specs.declared.Verdict as code
+use Rattle.faults.specs.declared.Verdict.the-variants.{Accepted, Refused}
+use Rattle.faults.specs.Faults.{verdictOf, areaOk, areasAt, inTurn, scanArea, okAt, ok4, ok6, ownerOf, looksAt, placesIn, Measured}
+use Rattle.faults.proofs.Scans.{first-on, first-stop, turn-open, turn-end, none, also, skipped, last}
+
+-- the lengths of the eight areas
+abbrev pub lengthsOf : Areas → List ℕ
+lengthsOf s =
+    length (s .types) ∷ length (s .constants) ∷ length (s .overrides) ∷ length (s .globals) ∷ length (s .expressions)
+    ∷ length (s .members) ∷ length (s .components) ∷ length (s .mentions) ∷ []
+
+-- opens the places of every number
+opened : ℕ
+unfolding inTurn scanArea okAt ok4 ok6 ownerOf looksAt placesIn numbered number scan scanRecords scanMentions poolUsed
+opened = 0
+
+-- no limit is above a pool's
+limit-le : (a : ℕ) → a < 8 → getD limits a 0 ≤ 16384
+unfolding limits
+limit-le zero l = omega arith
+limit-le (suc zero) l = omega arith
+limit-le (suc (suc zero)) l = omega arith
+limit-le (suc (suc (suc zero))) l = omega arith
+limit-le (suc (suc (suc (suc zero)))) l = omega arith
+limit-le (suc (suc (suc (suc (suc zero))))) l = omega arith
+limit-le (suc (suc (suc (suc (suc (suc zero)))))) l = omega arith
+limit-le (suc (suc (suc (suc (suc (suc (suc zero))))))) l = omega arith
+limit-le (suc (suc (suc (suc (suc (suc (suc (suc a)))))))) l = absurd (omega arith)
+
+passing : {v : Verdict} → v ≡ accepted → T (passes v)
+unfolding passes
+passing e = subst (λ v. T (passes v)) (sym e) tt
+
+module _ (s : Areas) (maps : List ℕ) where
+  -- the verdict under a number from 1 to 7
+  unfoldable pub stage : ℕ → Verdict
+  stage n = cond (ltb n 4) (scanAreas n (areaOk (lengthsOf s) maps n) (areasAt n)) (inTurn (scanArea s n) 0 8)
+
+  stage1 : check1 s ≡ stage 1
+  unfolding stage check1 scanAreas scan areaOk areasAt lengthOf allWords
+  stage1 = refl
+
+  stage2 : check2 s ≡ stage 2
+  unfolding stage check2 scanAreas scan areaOk areasAt recordsOf lengthOf allWords
+  stage2 = refl
+
+  stage3 : check3 s maps ≡ stage 3
+  unfolding stage check3 scanAreas scan areaOk areasAt recordsOf lengthOf allWords
+  stage3 = refl
+
+  stage4 : check4 s ≡ stage 4
+  unfolding stage check4 opened
+  stage4 = also _ _ (also _ _ (also _ _ (also _ _ (also _ _ (also _ _ (also _ _ (also _ _ none)))))))
+
+  stage5 : check5 s ≡ stage 5
+  unfolding stage check5 opened
+  stage5 = skipped (skipped (skipped (skipped (last _ (skipped (skipped (skipped refl)))))))
+
+  stage6 : check6 s ≡ stage 6
+  unfolding stage check6 opened
+  stage6 = also _ _ (also _ _ (also _ _ (also _ _ (also _ _ (skipped (skipped (also _ _ none)))))))
+
+  stage7 : check7 s ≡ stage 7
+  unfolding stage check7 opened
+  stage7 = also _ _ (skipped (skipped (skipped (also _ _ (none ∙ skipped (skipped (skipped refl)))))))
+
+  -- the check is the seven in turn
+  pub in-turn : check s maps ≡ inTurn stage 1 7
+  unfolding check inTurn
+  in-turn =
+      rw (stage1, stage2, stage3, stage4, stage5, stage6, stage7)
+      (also _ _ (also _ _ (also _ _ (also _ _ (also _ _ (also _ _ (also _ _ none)))))))
+
+  -- a number below 4 goes by the lengths
+  pub by-lengths : (n : ℕ) {v : Verdict} → n < 4 → v ≡ scanAreas n (areaOk (lengthsOf s) maps n) (areasAt n) → v ≡ stage n
+  unfolding stage
+  by-lengths n l e = rw (lt-ltb n 4 l) e
+
+  -- the others by the places
+  pub by-places : (n : ℕ) {v : Verdict} → 4 ≤ n → v ≡ inTurn (scanArea s n) 0 8 → v ≡ stage n
+  unfolding stage
+  by-places n l e = rw (le-ltb n 4 l) e
+
+  -- the numbers from n on decide, since those before accept
+  pub record Reached (n : ℕ) : Type 0 where
+    pub left : inTurn stage n (8 - n) ≡ check s maps
+    pub passed : (k : ℕ) → 1 ≤ k → k < n → stage k ≡ accepted
+
+  pub from-one : Reached 1
+  from-one = record { left = sym in-turn; passed = λ k a b. absurd (omega arith) }
+
+  module _ (n : ℕ) (h : Reached n) where
+    -- one more accepts
+    pub goes-on : {v : code.Verdict} → n < 8 → verdictOf v ≡ stage n → v ≡ Accepted → Reached (n + 1)
+    goes-on l e q =
+        let a : stage n ≡ accepted = sym e ∙ ap verdictOf q in
+        record {
+          left = sym (turn-open stage n 8 l ∙ first-on _ a) ∙ h .left;
+          passed = λ k b c. elim (ℕ-discrete k n) [ yes p ↦ ap stage p ∙ a | no p ↦ h .passed k b (omega arith) ];
+        }
+
+    -- one refuses
+    pub stops : {v : code.Verdict} {f : Fault} → n < 8 → verdictOf v ≡ stage n → v ≡ Refused f → verdictOf (Refused f) ≡ check s maps
+    stops l e q = sym (turn-open stage n 8 l ∙ first-stop _ (sym e ∙ ap verdictOf q)) ∙ h .left
+
+    -- none is left
+    pub ends : 8 ≤ n → accepted ≡ check s maps
+    ends l = sym (turn-end stage n 8 l) ∙ h .left
+
+    -- what numbers 1 and 2 leave
+    pub measured : 4 ≤ n → Measured s
+    unfolding check1 check2 lengthOf allWords widths
+    measured l = record {
+      whole = eqb→eq _ 0 (areas-all 1 _ 8 (passing (stage1 ∙ h .passed 1 (omega arith) (omega arith))) 0 (omega arith));
+      few = λ a m. le-trans (leb→le _ _ (areas-all 2 _ 8 (passing (stage2 ∙ h .passed 2 (omega arith) (omega arith))) a m)) (limit-le a m);
+    }

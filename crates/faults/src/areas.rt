@@ -1,0 +1,50 @@
+// Numbers 1 to 3: the areas by their lengths.
+ghost use mathlib.Core.Path.{_≡_};
+ghost use Prim.Native.Nat.{_<_};
+ghost use Rattle.definitions.specs.Refusals.{scanAreas};
+ghost use Rattle.faults.specs.Faults.{areaOk, areasAt, verdictOf};
+use crate::Fault;
+use crate::Verdict;
+
+// How many areas the number looks at: only arenas have maps.
+fn areas_at(number: u32) -> usize
+    ensures { λ r. ⌜ r ≡ areasAt number ⌝ }
+{
+    match number {
+        1 | 2 => 8,
+        _ => 5,
+    }
+}
+
+// Is the area good under the number ? 1: whole records; 2: no more than its limit; 3: a map with room.
+fn fine(number: u32, area: usize, lengths: &[usize; 8], maps: &[usize; 5]) -> bool
+    requires { ⌜ area < areasAt number ⌝ }
+    ensures { λ r. ⌜ r ≡ areaOk (now (lengths .entry)) (now (maps .entry)) number area ⌝ }
+{
+    let length = lengths[area];
+    let width = arena::width(area);
+    match number {
+        1 => length % width == 0,
+        2 => length / width <= arena::limit(area),
+        _ => length / width <= maps[area],
+    }
+}
+
+// The first area that is at fault under the number.
+pub fn first(number: u32, lengths: &[usize; 8], maps: &[usize; 5]) -> Verdict
+    ensures { λ r. ⌜ verdictOf r ≡ scanAreas number (areaOk (now (lengths .entry)) (now (maps .entry)) number) (areasAt number) ⌝ }
+{
+    let n = areas_at(number);
+    let mut area = 0;
+    while area < n {
+        if !fine(number, area, lengths, maps) {
+            return Verdict::Refused(Fault {
+                number,
+                area: area as u32,
+                record: 0,
+            });
+        }
+        area += 1;
+    }
+    Verdict::Accepted
+}

@@ -1,0 +1,230 @@
+// Marking: an element with what stands behind it, what a record refers to, the roots.
+mod roots;
+
+ghost use mathlib.Core.Bool.{cond};
+ghost use mathlib.Core.List.{[], _∷_, _++_, map};
+ghost use Rattle.definitions.specs.Areas.{areasOf, at, numbered, types, expressions, wordOf};
+ghost use Rattle.definitions.specs.Slots.{may, slots};
+ghost use Rattle.definitions.specs.References.{namedBy, namedFrom};
+ghost use Rattle.arena.specs.Elements.{elementOf};
+ghost use Rattle.arena.specs.HandleSet.{bit, member, room};
+ghost use Rattle.slots.specs.Codes.{unpacked, wordsFrom, slotOf, runIn};
+ghost use Rattle.slots.specs.Part.{part};
+ghost use Rattle.trace.specs.Bits.{added, bitsOf, Holds, Put, Marked, visitBits};
+use arena::Constant;
+use arena::Element;
+use arena::ExpressionHandle;
+use arena::Global;
+use arena::N;
+use arena::Override;
+use arena::TypeHandle;
+use arena::handle_set;
+use arena::handle_set::Bases;
+pub use roots::Counts;
+pub use roots::mark_roots;
+use slots::Slot;
+
+// Marks a type and, unless it is N, an init.
+fn mark_both(marks: &mut [u64], b: Bases, ty: TypeHandle, init: ExpressionHandle)
+    ensures { λ _. ⌜ Put (map (bit b) (at types (ty .0) ∷ namedBy (may expressions) (init .0))) (now (marks .entry)) (now (marks .exit)) ⌝ }
+{
+    handle_set::insert(marks, b, Element::Type(ty));
+    if init.0 != N {
+        handle_set::insert(marks, b, Element::Expression(init));
+    }
+}
+
+// Marks an element; a constant, override or global with its type and init at once.
+pub fn mark(
+    marks: &mut [u64],
+    b: Bases,
+    x: Element,
+    constants: &[u32],
+    overrides: &[u32],
+    globals: &[u32],
+)
+    ensures { λ _. ⌜ Marked (part (now (constants .entry)) (now (overrides .entry)) (now (globals .entry))) b (elementOf x ∷ []) (now (marks .entry)) (now (marks .exit)) ⌝ }
+{
+    handle_set::insert(marks, b, x);
+    match x {
+        Element::Type(_) => {}
+        Element::Constant(h) => {
+            handle_set::insert(marks, b, Element::Type(Constant::ty(constants, h)));
+            handle_set::insert(marks, b, Element::Expression(Constant::init(constants, h)));
+        }
+        Element::Override(h) => mark_both(
+            marks,
+            b,
+            Override::ty(overrides, h),
+            Override::init(overrides, h),
+        ),
+        Element::Global(h) => mark_both(marks, b, Global::ty(globals, h), Global::init(globals, h)),
+        Element::Expression(_) => {}
+    }
+}
+
+// Marks what a slot names.
+fn trace_slot(
+    marks: &mut [u64],
+    b: Bases,
+    slot: Slot,
+    w: u32,
+    constants: &[u32],
+    overrides: &[u32],
+    globals: &[u32],
+)
+    ensures { λ _. ⌜ Marked (part (now (constants .entry)) (now (overrides .entry)) (now (globals .entry))) b (namedBy (slotOf slot) w) (now (marks .entry)) (now (marks .exit)) ⌝ }
+{
+    match slot {
+        Slot::Must(arena) => mark(
+            marks,
+            b,
+            slots::element(arena, w),
+            constants,
+            overrides,
+            globals,
+        ),
+        Slot::May(arena) => {
+            if w != N {
+                mark(
+                    marks,
+                    b,
+                    slots::element(arena, w),
+                    constants,
+                    overrides,
+                    globals,
+                );
+            }
+        }
+        _ => {}
+    }
+}
+
+// Marks what the slots of the record that starts at a place name.
+fn trace_slots(
+    marks: &mut [u64],
+    b: Bases,
+    ws: &[u32],
+    at: usize,
+    shape: u64,
+    constants: &[u32],
+    overrides: &[u32],
+    globals: &[u32],
+)
+    ensures { λ _. ⌜ Marked (part (now (constants .entry)) (now (overrides .entry)) (now (globals .entry))) b (namedFrom (wordsFrom (now (ws .entry)) at) 0 (unpacked shape 10)) (now (marks .entry)) (now (marks .exit)) ⌝ }
+{
+    let mut rest = shape;
+    let mut k = 0;
+    while k < 10 && rest != 0 {
+        trace_slot(
+            marks,
+            b,
+            slots::first(rest),
+            slots::word(ws, at, k),
+            constants,
+            overrides,
+            globals,
+        );
+        rest = rest / 16;
+        k += 1;
+    }
+}
+
+// Marks the handles of a run.
+fn trace_run(marks: &mut [u64], b: Bases, area: u32, run: &[u32])
+    ensures { λ _. ⌜ Put (map (bit b) (map (at (numbered area)) (now (run .entry)))) (now (marks .entry)) (now (marks .exit)) ⌝ }
+{
+    let mut i = 0;
+    while i < run.len() {
+        handle_set::insert(marks, b, slots::element(slots::arena_at(area), run[i]));
+        i += 1;
+    }
+}
+
+// Visits record i of an area: where it is marked, marks what it refers to.
+pub fn trace(
+    marks: &mut [u64],
+    b: Bases,
+    area: u32,
+    i: u32,
+    ws: &[u32],
+    pool: &[u32],
+    constants: &[u32],
+    overrides: &[u32],
+    globals: &[u32],
+)
+    ensures { λ _. ⌜ Holds (now (marks .entry)) (cond (member (now (marks .entry)) (bit b (at (numbered area) i))) (added (room (now (marks .entry))) (bitsOf (part (now (constants .entry)) (now (overrides .entry)) (now (globals .entry))) b (namedFrom (wordOf (now (ws .entry)) (numbered area) i) 0 (slots (numbered area) (wordOf (now (ws .entry)) (numbered area) i)) ++ map (at (numbered area)) (runIn (numbered area) (wordOf (now (ws .entry)) (numbered area) i) (now (pool .entry))))) (member (now (marks .entry)))) (member (now (marks .entry)))) (now (marks .exit)) ⌝ }
+{
+    if handle_set::contains(marks, b, slots::element(slots::arena_at(area), i)) {
+        let at = i as usize * slots::arena_width(area);
+        trace_slots(
+            marks,
+            b,
+            ws,
+            at,
+            slots::shape(area, ws, at),
+            constants,
+            overrides,
+            globals,
+        );
+        trace_run(marks, b, area, slots::run(area, ws, at, pool));
+    }
+}
+
+// Visits a type. As the Rust's `TypeTracer::trace_type`, under its caller's test.
+pub fn trace_type<'a>(
+    marks: &mut [u64],
+    b: Bases,
+    h: TypeHandle,
+    types: &'a [u32],
+    constants: &'a [u32],
+    overrides: &'a [u32],
+    globals: &'a [u32],
+    expressions: &'a [u32],
+    members: &'a [u32],
+    components: &'a [u32],
+    mentions: &'a [u32],
+)
+    ensures { λ _. ⌜ Holds (now (marks .entry)) (visitBits (areasOf (now (types .entry)) (now (constants .entry)) (now (overrides .entry)) (now (globals .entry)) (now (expressions .entry)) (now (members .entry)) (now (components .entry)) (now (mentions .entry))) b (room (now (marks .entry))) (member (now (marks .entry))) (at (numbered 0) (h .0))) (now (marks .exit)) ⌝ }
+{
+    trace(
+        marks,
+        b,
+        0,
+        h.0,
+        types,
+        members,
+        constants,
+        overrides,
+        globals,
+    );
+}
+
+// Visits an expression. As `ExpressionTracer::trace_expression`, under its caller's test.
+pub fn trace_expression<'a>(
+    marks: &mut [u64],
+    b: Bases,
+    h: ExpressionHandle,
+    types: &'a [u32],
+    constants: &'a [u32],
+    overrides: &'a [u32],
+    globals: &'a [u32],
+    expressions: &'a [u32],
+    members: &'a [u32],
+    components: &'a [u32],
+    mentions: &'a [u32],
+)
+    ensures { λ _. ⌜ Holds (now (marks .entry)) (visitBits (areasOf (now (types .entry)) (now (constants .entry)) (now (overrides .entry)) (now (globals .entry)) (now (expressions .entry)) (now (members .entry)) (now (components .entry)) (now (mentions .entry))) b (room (now (marks .entry))) (member (now (marks .entry))) (at (numbered 4) (h .0))) (now (marks .exit)) ⌝ }
+{
+    trace(
+        marks,
+        b,
+        4,
+        h.0,
+        expressions,
+        components,
+        constants,
+        overrides,
+        globals,
+    );
+}
