@@ -27,7 +27,7 @@ use Rattle.definitions.proofs.Places.{place-dropped, rank-le}
 use Rattle.definitions.proofs.Counts.{map-length}
 use Rattle.definitions.proofs.Reading.{run-eq, no-span, shaped-slot, length-layout, start-slot, run-wide}
 use Rattle.slots.proofs.Laws.{span-in}
-use Rattle.adjust.specs.Rewrite.{keptBy, adjustedBy, recordFrom, spanOf, startBy, recordBy, arenaBy, runBy, poolBy, mentionBy, mentionsBy}
+use Rattle.adjust.specs.Rewrite.{runsBy, keptBy, adjustedBy, recordFrom, spanOf, startBy, recordBy, arenaBy, runBy, poolBy, mentionBy, mentionsBy}
 
 -- what is the same at each number is the same in all
 gather-same : (p r : ℕ → Bool) (f g : ℕ → Words) (n : ℕ) → ((h : ℕ) → h < n → p h ≡ r h) → ((h : ℕ) → h < n → f h ≡ g h) → gather p f n ≡ gather r g n
@@ -146,10 +146,15 @@ module _ (s : Areas) (m : List Elem) (p : Maps) where
         ∙ ap (map (lookup (mapOf maps a))) (sym (run-is a h l))
         ∙ map-places a (run s a h) (and-right (every (held s) (word s a h) 0 (layout s a h)) (all (λ w. test s (at a w)) (run s a h)) (c .holds a h l))
 
-    -- a pool holds the runs of the kept records, then N to its old end
+    -- the runs of the kept records
+    pub runs-after : (a : Arena) → runsBy (mapOf maps a) a (words s a) (pool s a) ≡ runsUpTo s m a (size s a)
+    unfolding runsUpTo size
+    runs-after a = gather-same _ _ _ _ (size s a) (kept-after a) (run-after a)
+
+    -- a pool holds them, then N to its old end
     pub pool-after : (a : Arena) → poolBy (mapOf maps a) a (words s a) (pool s a) ≡ padded (pool s a) (runsUpTo s m a (size s a))
-    unfolding poolBy runsUpTo size
-    pool-after a = ap (padded (pool s a)) (gather-same _ _ _ _ (size s a) (kept-after a) (run-after a))
+    unfolding poolBy
+    pool-after a = ap (padded (pool s a)) (runs-after a)
 
     -- ---- the mentions
 

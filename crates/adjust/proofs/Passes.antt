@@ -18,7 +18,7 @@ use Rattle.definitions.specs.MapEntries.{lookup}
 use Rattle.definitions.proofs.Reading.{length-slots, width-pos}
 use Rattle.slots.specs.Codes.{unpacked, spanIn, wordsFrom}
 use Rattle.slots.proofs.Laws.{body-shape}
-use Rattle.adjust.specs.Rewrite.{keptBy, recordFrom, spanOf, startBy, recordBy, arenaBy, runBy, poolBy, mentionBy, mentionsBy}
+use Rattle.adjust.specs.Rewrite.{runsBy, keptBy, recordFrom, spanOf, startBy, recordBy, arenaBy, runBy, poolBy, mentionBy, mentionsBy}
 use Rattle.adjust.proofs.Stores.{Partly, begun, dropped, moved, ended}
 
 -- one more of a sum
@@ -181,6 +181,13 @@ module _ (own : Words) (a : Arena) (ws old : Words) (w : ℕ) where
   unfolding poolBy
   packed new last from to at h wide n r e =
       ended _ _ _ new last from to h (r .part) e ∙ ap (λ k. padded old (gather (keptBy own) (runBy own a ws old) k)) (n ∙ ap (λ v. length ws / v) wide)
+
+  -- and so many words were kept
+  pub packed-count : (new : Words) (from to at h : ℕ) → w ≡ width a → h ≡ length ws / w → Packing new from to at h → to ≡ length (runsBy own a ws old)
+  packed-count new from to at h wide n r =
+      sym (length-take-le to new (omega (arith, r .part .low, r .part .high, r .part .same)))
+      ∙ ap length (r .part .done)
+      ∙ ap (λ k. length (gather (keptBy own) (runBy own a ws old) k)) (n ∙ ap (λ v. length ws / v) wide)
 
 -- ---- the mentions
 

@@ -60,9 +60,13 @@ arenaBy p a ws = padded ws (gather (keptBy (mapOf p a)) (recordBy p a ws) (recor
 unfoldable pub runBy : Words → Arena → Words → Words → ℕ → Words
 runBy own a ws pool h = map (lookup own) (take (spanOf a ws h) (drop (total any (spanOf a ws) h) pool))
 
--- a pool after: the runs of its arena's kept records, adjusted, then N to its old end
+-- the runs of an arena's kept records, adjusted, one after another
+abbrev pub runsBy : Words → Arena → Words → Words → Words
+runsBy own a ws pool = gather (keptBy own) (runBy own a ws pool) (recordCount a ws)
+
+-- a pool after: those runs, then N to its old end
 unfoldable pub poolBy : Words → Arena → Words → Words → Words
-poolBy own a ws pool = padded pool (gather (keptBy own) (runBy own a ws pool) (recordCount a ws))
+poolBy own a ws pool = padded pool (runsBy own a ws pool)
 
 -- word k of mention h
 abbrev pub mentionAt : Words → ℕ → ℕ → ℕ

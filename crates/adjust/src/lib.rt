@@ -9,7 +9,7 @@ ghost use Rattle.definitions.specs.Slots.{tag};
 ghost use Rattle.definitions.specs.Outcome.{mapOf};
 ghost use Rattle.definitions.specs.MapEntries.{lookup};
 ghost use Rattle.slots.specs.Codes.{arenaOf, slotOf, unpacked, wordsFrom};
-ghost use Rattle.adjust.specs.Rewrite.{mapsOf, keptBy, adjustedBy, recordFrom, arenaBy, poolBy, mentionsBy};
+ghost use Rattle.adjust.specs.Rewrite.{mapsOf, keptBy, adjustedBy, recordFrom, arenaBy, poolBy, runsBy, mentionsBy};
 use arena::N;
 use slots::Arena;
 use slots::Slot;
@@ -212,9 +212,9 @@ fn adjust_run(pool: &mut [u32], from: usize, to: usize, n: usize, own: &[u32])
     }
 }
 
-// A pool rewritten: the runs of its arena's kept records adjusted and closed up, then N. The arena's records still stand as they were.
-pub fn adjust_pool(area: u32, ws: &[u32], pool: &mut [u32], own: &[u32])
-    ensures { λ _. ⌜ now (pool .exit) ≡ poolBy (now (own .entry)) (numbered area) (now (ws .entry)) (now (pool .entry)) ⌝ }
+// A pool rewritten: the runs of its arena's kept records adjusted and closed up, then N. Answers how many words were kept. The arena's records still stand as they were.
+pub fn adjust_pool(area: u32, ws: &[u32], pool: &mut [u32], own: &[u32]) -> usize
+    ensures { λ r. ⌜ (now (pool .exit) ≡ poolBy (now (own .entry)) (numbered area) (now (ws .entry)) (now (pool .entry))) × (r ≡ length (runsBy (now (own .entry)) (numbered area) (now (ws .entry)) (now (pool .entry)))) ⌝ }
 {
     let width = slots::arena_width(area);
     let n = ws.len() / width;
@@ -236,6 +236,7 @@ pub fn adjust_pool(area: u32, ws: &[u32], pool: &mut [u32], own: &[u32])
         h += 1;
     }
     fill(&mut pool[to..]);
+    to
 }
 
 // The mentions adjusted in place: of each the second word, a handle of the arena that the first names.

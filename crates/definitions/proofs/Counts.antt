@@ -71,7 +71,7 @@ map-entries s m a old l =
     ∙ live-map (isKept m a) (size s a) l
 
 -- and the words of the kept runs are as many as their counts say
-run-words : (s : Areas) (m : List Elem) → Sound s → (a : Arena) → length (runsUpTo s m a (size s a)) ≡ keptRuns s m a
+pub run-words : (s : Areas) (m : List Elem) → Sound s → (a : Arena) → length (runsUpTo s m a (size s a)) ≡ keptRuns s m a
 unfolding runsUpTo
 run-words s m c a = length-gather (isKept m a) _ (size s a) ∙ start-total s m c a (size s a) (le-refl (size s a))
 

@@ -5,6 +5,7 @@ use mathlib.Core.Bool.{Bool, true, false, _&&_, cond}
 use mathlib.Core.Logic.{_⊎_, inl, inr, ⊎-elim}
 use mathlib.Core.List.{[]}
 use Prim.Native.Nat.{ℕ, zero, suc, _+_, _-_, _≤_, _<_, min}
+use native.Mathlib.Numerals.{add-one}
 use native.Mathlib.Omega.{arith}
 use lib.Dec.{eqb, ltb, leb}
 use borrow.Author.Tests.{lt-ltb, le-ltb, ne-eqb}
@@ -17,7 +18,7 @@ use Rattle.rules.proofs.Laws.{sized-part, leading-on}
 use Rattle.faults.specs.declared.places.Carried.{Carried}
 use Rattle.faults.specs.Faults.{most, carriedAt, carriedTo}
 
--- nothing
+-- nothing is carried
 abbrev pub nothing : Carried
 nothing = record { sum = 0; types = 0 }
 
@@ -42,6 +43,16 @@ module _ (s : Areas) (n a i : ℕ) where
   nothing-else p q = rw (ne-eqb n 4 p, ne-eqb n 7 q)
 
 module _ (s : Areas) where
+  -- nothing is handed to the first record
+  pub handed-none : (n a : ℕ) → nothing ≡ carriedTo s n a 0
+  unfolding carriedTo
+  handed-none n a = refl
+
+  -- and to the next what was carried to the last
+  pub handed-on : (n a i : ℕ) {v : Carried} → v ≡ carriedAt s n a i → v ≡ carriedTo s n a (i + 1)
+  unfolding carriedTo
+  handed-on n a i e = rw add-one e
+
   -- no more is carried than a word can equal
   pub carried-le : (n a i : ℕ) → (carriedTo s n a i) .sum ≤ most
   unfolding carriedTo carriedAt

@@ -4,10 +4,12 @@ use mathlib.Core.Path.{_≡_, refl}
 use mathlib.Core.List.{List}
 use Prim.Native.Nat.{ℕ, zero, suc, _%_, _/_, _≤_, _<_}
 use native.Mathlib.Omega.{arith}
-use lib.Dec.{eqb, leb}
+use lib.Dec.{eqb, ltb, leb, ltb→lt}
 use lib.ListN.{getD}
 use borrow.Author.Tests.{ne-eqb}
+use Rattle.definitions.specs.Lists.{all}
 use Rattle.definitions.specs.Areas.{width, widths, limits}
+use Rattle.definitions.proofs.Judged.{all-at}
 use Rattle.faults.specs.Faults.{areaOk, areasAt}
 
 -- numbers 1 and 2 look at all areas
@@ -33,16 +35,8 @@ areas-le (suc (suc (suc n))) = rw (arenas (suc (suc (suc n))) (λ e. omega arith
 
 -- no record is empty
 pub wide : (a : ℕ) → a < 8 → 0 < getD widths a 1
-unfolding widths width
-wide zero l = omega arith
-wide (suc zero) l = omega arith
-wide (suc (suc zero)) l = omega arith
-wide (suc (suc (suc zero))) l = omega arith
-wide (suc (suc (suc (suc zero)))) l = omega arith
-wide (suc (suc (suc (suc (suc zero))))) l = omega arith
-wide (suc (suc (suc (suc (suc (suc zero)))))) l = omega arith
-wide (suc (suc (suc (suc (suc (suc (suc zero))))))) l = omega arith
-wide (suc (suc (suc (suc (suc (suc (suc (suc a)))))))) l = absurd (omega arith)
+unfolding widths width all
+wide a l = ltb→lt 0 _ (all-at (ltb 0) widths 1 tt a l)
 
 module _ (lengths maps : List ℕ) (n a w : ℕ) (e : w ≡ getD widths a 1) where
   pub whole : n ≡ 1 → eqb (getD lengths a 0 % w) 0 ≡ areaOk lengths maps n a

@@ -3,15 +3,17 @@
 use mathlib.Core.Path.{_≡_, refl, sym, ap, subst, _∙_}
 use mathlib.Core.Bool.{cond}
 use mathlib.Core.List.{List, [], _∷_}
-use Prim.Native.Nat.{ℕ, zero, suc, _+_, _-_, _≤_, _<_}
+use Prim.Native.Nat.{ℕ, _+_, _-_, _≤_, _<_}
 use native.Mathlib.Decide.{ℕ-discrete}
 use native.Mathlib.Nat.{le-trans}
 use native.Mathlib.Omega.{arith}
-use lib.Dec.{T, ltb, eqb→eq, leb→le}
+use lib.Dec.{T, ltb, leb, eqb→eq, leb→le}
 use lib.ListN.{length, getD}
 use borrow.Author.Tests.{lt-ltb, le-ltb}
+use Rattle.definitions.specs.Lists.{all}
 use Rattle.definitions.specs.Areas.{Areas, number, numbered, widths, limits, lengthOf, allWords, recordsOf}
 use Rattle.definitions.specs.Refusals.{Verdict, accepted, passes, scan, scanAreas, scanRecords, scanMentions, poolUsed, check1, check2, check3, check4, check5, check6, check7, check}
+use Rattle.definitions.proofs.Judged.{all-at}
 use Rattle.definitions.proofs.Accepted.{areas-all}
 use Rattle.faults.specs.declared.Fault.{Fault}
 use Rattle.faults.specs.declared.Verdict as code
@@ -32,16 +34,8 @@ opened = 0
 
 -- no limit is above a pool's
 limit-le : (a : ℕ) → a < 8 → getD limits a 0 ≤ 16384
-unfolding limits
-limit-le zero l = omega arith
-limit-le (suc zero) l = omega arith
-limit-le (suc (suc zero)) l = omega arith
-limit-le (suc (suc (suc zero))) l = omega arith
-limit-le (suc (suc (suc (suc zero)))) l = omega arith
-limit-le (suc (suc (suc (suc (suc zero))))) l = omega arith
-limit-le (suc (suc (suc (suc (suc (suc zero)))))) l = omega arith
-limit-le (suc (suc (suc (suc (suc (suc (suc zero))))))) l = omega arith
-limit-le (suc (suc (suc (suc (suc (suc (suc (suc a)))))))) l = absurd (omega arith)
+unfolding limits all
+limit-le a l = leb→le _ 16384 (all-at (λ m. leb m 16384) limits 0 tt a l)
 
 passing : {v : Verdict} → v ≡ accepted → T (passes v)
 unfolding passes

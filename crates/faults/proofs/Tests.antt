@@ -39,6 +39,7 @@ pub looks-any : (n a : ℕ) → (n ≡ 5 → ⊥) → (n ≡ 7 → ⊥) → true
 unfolding looksAt
 looks-any n a p q = rw (ne-eqb n 5 p, ne-eqb n 7 q)
 
+-- so that number 7 looks at these
 pub seven-looks : (n a : ℕ) → n ≡ 7 → looksAt n a ≡ true → (a ≡ 0) ⊎ (a ≡ 4)
 seven-looks n a e t = elim (ℕ-discrete a 0) [
   | yes p ↦ inl p
@@ -130,6 +131,7 @@ module _ (s : Areas) where
     unfolding okAt ofModule word words
     kind-other p = rw (e, ← q, ne-eqb k 13 p)
 
+  -- the counts of the runs of an arena
   counted : (b : Arena) (m : ℕ) → total any (λ h. spanIn b (wordOf (words s b) b h)) m ≡ runsBefore s b m
   unfolding runsBefore word
   counted b m = total-cong any _ _ m (λ h l t. sym (span-in s b h))
@@ -144,6 +146,7 @@ module _ (s : Areas) where
     unfolding okAt ok4 ownerOf numbered words pool
     components-used p t = t ∙ rw (q, p, e) (ap (λ m. eqb m (length (s .components))) (counted expressions (size s expressions)))
 
+  -- a mention
   module _ (n i w : ℕ) (e : w ≡ getD (s .mentions) (i * mentionWidth + 0) 0) where
     pub mention-area : n ≡ 4 → ltb w 5 ≡ okAt s n 7 i
     unfolding okAt ok4 mentionWord

@@ -1,18 +1,16 @@
 -- The nested loops: what is left of the areas, and of an area's places, decides.
 -- Assumes nothing.
-use mathlib.Core.Path.{_≡_, refl, sym, ap, ap₂, _∙_}
+use mathlib.Core.Path.{_≡_, sym, ap, ap₂, _∙_}
 use mathlib.Core.Bool.{Bool, true, false, not}
 use mathlib.Core.List.{[], _∷_}
 use Prim.Native.Nat.{ℕ, _+_, _-_, _/_, _≤_, _<_}
-use native.Mathlib.Numerals.{add-one}
 use lib.ListN.{length}
 use borrow.Author.Tests.{not-true, not-false}
 use Rattle.definitions.specs.Areas.{Areas, mentionWidth, mentionCount}
 use Rattle.definitions.specs.Refusals.{Verdict, accepted, refused, firstOf, scan}
 use Rattle.rules.specs.Rules.{sizesOf}
 use Rattle.rules.specs.declared.Sizes.{Sizes}
-use Rattle.faults.specs.declared.places.Carried.{Carried}
-use Rattle.faults.specs.Faults.{inTurn, scanArea, okAt, placesAt, placesIn, carriedAt, carriedTo}
+use Rattle.faults.specs.Faults.{inTurn, scanArea, okAt, placesAt, placesIn}
 use Rattle.faults.proofs.Scans.{scan-whole, scan-on, scan-stop, scan-end, first-on, first-stop, turn-open, turn-end}
 
 module _ (s : Areas) (n : ℕ) where
@@ -58,13 +56,3 @@ module _ (s : Areas) (n : ℕ) where
         -- its end
         pub leave : m ≤ i → PlacesLeft a m i → AreasLeft (a + 1)
         leave l h = sym (first-on rest (scan-end (okAt s n a) (refused n a) i m l)) ∙ h
-
--- nothing is handed to the first record
-pub handed-none : (s : Areas) (n a : ℕ) → record { sum = 0; types = 0 } ≡ carriedTo s n a 0
-unfolding carriedTo
-handed-none s n a = refl
-
--- and to the next what was carried to the last
-pub handed-on : (s : Areas) (n a i : ℕ) {v : Carried} → v ≡ carriedAt s n a i → v ≡ carriedTo s n a (i + 1)
-unfolding carriedTo
-handed-on s n a i e = rw add-one e

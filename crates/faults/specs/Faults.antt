@@ -81,8 +81,6 @@ placesAt s n a = placesIn (sizesOf s) (mentionCount s) n a
 unfoldable pub scanArea : Areas → ℕ → ℕ → R.Verdict
 scanArea s n a = scan (okAt s n a) (refused n a) 0 (placesAt s n a)
 
--- ---- what is carried from record to record
-
 -- the bounds of type or expression i of an area; `before` types have dep below the expression
 unfoldable pub boundsAt : ℕ → ℕ → ℕ → ℕ → Bounds
 boundsAt area i before n =
@@ -92,6 +90,8 @@ boundsAt area i before n =
       expressions = cond (eqb area 0) 0 i;
       «every_expression» = eqb area 0;
     }
+
+-- ---- what is carried from record to record
 
 -- one more than any 32-bit word
 abbrev pub most : ℕ

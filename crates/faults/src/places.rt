@@ -135,16 +135,19 @@ pub struct Carried {
     pub types: u32,
 }
 
+// One more than any word.
+const MOST: usize = 4294967296;
+
 // A sum, as far as a word can equal it.
 fn capped(a: usize, b: u32) -> usize
     requires { ⌜ a ≤ most ⌝ }
     ensures { λ r. ⌜ r ≡ min (a + b) most ⌝ }
 {
     let sum = a + b as usize;
-    if sum < 4294967296 {
+    if sum < MOST {
         return sum;
     }
-    4294967296
+    MOST
 }
 
 // What is carried to record i of an area from the record before it.

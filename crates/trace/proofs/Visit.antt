@@ -1,7 +1,7 @@
 -- A visit of a record: what it names is marked where it is marked itself, and for a record of the module it is the module's visit.
 -- Assumes nothing.
 use mathlib.Core.Path.{_≡_, refl, sym, ap, ap₂, subst, _∙_}
-use mathlib.Core.Bool.{Bool, true, false, cond}
+use mathlib.Core.Bool.{true, false, cond}
 use mathlib.Core.List.{List, [], _∷_, _++_, map}
 use Prim.Native.Nat.{ℕ}
 use Rattle.definitions.specs.Areas.{Words, Areas, Arena, Elem, at, types, constants, overrides, globals, expressions, words, wordOf, word, pool}

@@ -9,7 +9,7 @@ use lib.ListN.{length}
 use Rattle.definitions.specs.Areas.{numbered}
 use Rattle.definitions.proofs.Reading.{width-pos}
 use Rattle.adjust.proofs.Stores.{tail-filled}
-use Rattle.adjust.proofs.Passes.{within, Packing, packing, run-dropped, run-kept, packed}
+use Rattle.adjust.proofs.Passes.{within, Packing, packing, run-dropped, run-kept, packed, packed-count}
 use borrow.Author.Needs.{needs}
 use Rattle.adjust.proofs.adjust_pool.Statement.{statement}
 use Rattle.adjust.proofs.adjust_pool.Tie as tie
@@ -104,7 +104,10 @@ same-length c = search needs
 returns : tie.Need-returns Inv-loop μ-loop
 returns c =
     let l = c .before .before .before .before .before .loop in
-    packed _ _ _ _ _ _ _ _ _ _ _ (c .before .before .before .before .before .before .arena-width .ensures) (omega arith) (l .inv .1) (tail-filled (l .pool) (l .to) _ (search needs) (c .before .before .fill .ensures))
+    let wide = c .before .before .before .before .before .before .arena-width .ensures in (
+      packed _ _ _ _ _ _ _ _ _ _ _ wide (omega arith) (l .inv .1) (tail-filled (l .pool) (l .to) _ (search needs) (c .before .before .fill .ensures)),
+      packed-count _ _ _ _ _ _ _ _ _ _ wide (omega arith) (l .inv .1),
+    )
 
 pub adjust-pool-spec : {M : Type 1} → statement M
 adjust-pool-spec =

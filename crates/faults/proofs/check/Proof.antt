@@ -51,7 +51,7 @@ returns : tie.Need-returns Inv-loop μ-loop Inv-loop2 μ-loop2
 returns c =
     let d = c .before .before .before .before .before .before .before .before .before .before .before .before .before .before .before .before .before .before .before .before .before in
     let l = c .before .before .before .before .before .before .before .loop in
-    stops (Given d) (Maps d) (l .number) (l .inv .2) (omega arith) (by-lengths (Given d) (Maps d) (l .number) (c .before .before .before .before .before .before .loop-test .taken) (c .before .before .before .first .ensures)) (c .before .v .given .1)
+    stops (Given d) (Maps d) (l .number) (l .inv .2) (omega arith) (by-lengths (Given d) (Maps d) (l .number) (omega arith) (c .before .before .before .first .ensures)) (c .before .v .given .1)
 
 enum-told : tie.Need-enum-told Inv-loop μ-loop Inv-loop2 μ-loop2
 enum-told c = search needs
@@ -66,7 +66,7 @@ loop-again : tie.Need-loop-again Inv-loop μ-loop Inv-loop2 μ-loop2
 loop-again c =
     let d = c .before .before .before .before .before .before .before .before .before .before .before .before .before .before .before .before .before .before .before .before in
     let l = c .before .before .before .before .before .before .loop in
-    (omega arith, omega arith, goes-on (Given d) (Maps d) (l .number) (l .inv .2) (omega arith) (by-lengths (Given d) (Maps d) (l .number) (c .before .before .before .before .before .loop-test .taken) (c .before .before .first .ensures)) (c .enum-told .given .1))
+    (omega arith, omega arith, goes-on (Given d) (Maps d) (l .number) (l .inv .2) (omega arith) (by-lengths (Given d) (Maps d) (l .number) (omega arith) (c .before .before .first .ensures)) (c .enum-told .given .1))
 
 loop2-holds : tie.Need-loop2-holds Inv-loop μ-loop Inv-loop2 μ-loop2
 loop2-holds c = (omega arith, omega arith, c .before .loop .inv .2)
@@ -75,7 +75,7 @@ first-requires-2 : tie.Need-first-requires-2 Inv-loop μ-loop Inv-loop2 μ-loop2
 first-requires-2 c κs =
     let d = c .before .before .before .before .before .before .before .before .before .before .before .before .before .before .before .before .before in
     let l = c .before .loop2 in
-    ((l .inv .0, c .loop2-test .taken), measured (Given d) (Maps d) (l .number) (l .inv .2) (l .inv .0))
+    ((l .inv .0, omega arith), measured (Given d) (Maps d) (l .number) (l .inv .2) (l .inv .0))
 
 enum-known-v-2 : tie.Need-enum-known-v-2 Inv-loop μ-loop Inv-loop2 μ-loop2
 enum-known-v-2 c = search needs
@@ -84,7 +84,7 @@ returns-2 : tie.Need-returns-2 Inv-loop μ-loop Inv-loop2 μ-loop2
 returns-2 c =
     let d = c .before .before .before .before .before .before .before .before .before .before .before .before .before .before .before .before .before .before .before .before .before in
     let l = c .before .before .before .before .before .loop2 in
-    stops (Given d) (Maps d) (l .number) (l .inv .2) (c .before .before .before .before .loop2-test .taken) (by-places (Given d) (Maps d) (l .number) (l .inv .0) (c .before .before .before .first2 .ensures)) (c .before .v2 .given .1)
+    stops (Given d) (Maps d) (l .number) (l .inv .2) (omega arith) (by-places (Given d) (Maps d) (l .number) (l .inv .0) (c .before .before .before .first2 .ensures)) (c .before .v2 .given .1)
 
 enum-told-2 : tie.Need-enum-told-2 Inv-loop μ-loop Inv-loop2 μ-loop2
 enum-told-2 c = search needs
@@ -99,7 +99,7 @@ loop2-again : tie.Need-loop2-again Inv-loop μ-loop Inv-loop2 μ-loop2
 loop2-again c =
     let d = c .before .before .before .before .before .before .before .before .before .before .before .before .before .before .before .before .before .before .before .before in
     let l = c .before .before .before .before .loop2 in
-    (omega arith, omega arith, goes-on (Given d) (Maps d) (l .number) (l .inv .2) (c .before .before .before .loop2-test .taken) (by-places (Given d) (Maps d) (l .number) (l .inv .0) (c .before .before .first2 .ensures)) (c .enum-told2 .given .1))
+    (omega arith, omega arith, goes-on (Given d) (Maps d) (l .number) (l .inv .2) (omega arith) (by-places (Given d) (Maps d) (l .number) (l .inv .0) (c .before .before .first2 .ensures)) (c .enum-told2 .given .1))
 
 returns-3 : tie.Need-returns-3 Inv-loop μ-loop Inv-loop2 μ-loop2
 returns-3 c = let d = c .before .before .before .before .before .before .before .before .before .before .before .before .before .before .before .before .before in ends (Given d) (Maps d) (c .before .loop2 .number) (c .before .loop2 .inv .2) (c .loop2-test .left)

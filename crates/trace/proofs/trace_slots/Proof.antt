@@ -68,7 +68,7 @@ loop-again c =
     let l = c .before .before .before .before .before .before .before .before .loop in
     let s = part (a .constants .now) (a .overrides .now) (a .globals .now) in
     let f = wordsFrom (a .ws .now) (a .at) in
-    let x = turn f (l .rest) (l .k) (c .before .before .before .before .before .before .before .loop-test .taken) (c .before .before .before .before .first .ensures) (c .before .before .before .word .ensures) in
+    let x = turn f (l .rest) (l .k) (omega arith) (c .before .before .before .before .first .ensures) (c .before .before .before .word .ensures) in
     (search needs, marked-turn s (a .b) _ _ _ _ x (c .before .before .trace-slot .ensures) (l .inv .1))
 
 returns : tie.Need-returns Inv-loop μ-loop

@@ -11,7 +11,8 @@ use Rattle.faults.specs.declared.places.Place.{Place}
 use Rattle.faults.specs.declared.places.Place.the-variants.{At, Nowhere}
 use Rattle.faults.specs.Faults.{carriedTo, inTurn, scanArea, placesAt}
 use Rattle.faults.proofs.Arenas.{mentions-le}
-use Rattle.faults.proofs.Walk.{places-are, AreasLeft, PlacesLeft, done, enter, next, fault, leave, handed-none, handed-on}
+use Rattle.faults.proofs.Carries.{handed-none, handed-on}
+use Rattle.faults.proofs.Walk.{places-are, AreasLeft, PlacesLeft, done, enter, next, fault, leave}
 use Rattle.faults.proofs.places.first.Statement.{statement}
 use Rattle.faults.proofs.places.first.Tie as tie
 

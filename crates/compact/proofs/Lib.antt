@@ -1,0 +1,4 @@
+-- The laws that close the proofs of `compact` and its stages, and what the contract says besides.
+pub mod Close
+pub mod Marking
+pub mod Once

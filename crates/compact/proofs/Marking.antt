@@ -1,0 +1,70 @@
+-- The roots marked and the sweep made over emptied words stand for what is kept; how few records an accepted module has.
+-- Assumes nothing.
+use mathlib.Core.Path.{_≡_, refl, sym, ap, subst, _∙_}
+use mathlib.Core.Bool.{Bool, false}
+use mathlib.Core.List.{List, []}
+use Prim.Native.Nat.{ℕ, zero, suc, _+_, _/_, _%_, _^_, _≤_, _<_}
+use native.Mathlib.Nat.{zero-div, le-refl}
+use native.Mathlib.Omega.{arith}
+use lib.ListN.{length, getD, take, replicate}
+use lib.Dec.{leb→le, lit<}
+use Rattle.definitions.specs.Areas.{Areas, types, expressions, size, mentionCount, recordsOf, lengthOf, allWords, widths, limits}
+use Rattle.definitions.specs.Order.{visits}
+use Rattle.definitions.specs.Sweep.{kept}
+use Rattle.definitions.proofs.Accepted.{Sound, facts}
+use Rattle.arena.specs.HandleSet.{bases, member, room}
+use Rattle.arena.specs.declared.handle_set.Bases.{Bases}
+use Rattle.arena.specs.Marks.{Marks}
+use Rattle.arena.proofs.Elements.{end-records}
+use Rattle.arena.proofs.Marks.{marks-none}
+use Rattle.trace.specs.Bits.{Holds, Marked, sweepBits, rootsIn}
+use Rattle.trace.proofs.Bridge.{roots-in, records-few, root-marks, kept-marks}
+use Rattle.tandem.proofs.Laws.{whole-order}
+use Rattle.compact.specs.Answer.{Accepts, sizesOf}
+use Rattle.compact.specs.declared.keep.Sizes.{Sizes}
+
+-- words of 0 hold nothing
+getD-zeros : (n i : ℕ) → _≡_ {A = ℕ} (getD (replicate n 0) i 0) 0
+getD-zeros zero i = refl
+getD-zeros (suc n) zero = refl
+getD-zeros (suc n) (suc i) = getD-zeros n i
+
+zeros-hold : (n j : ℕ) → member (replicate n 0) j ≡ false
+unfolding member
+zeros-hold n j = rw (getD-zeros n (j / 64), zero-div (2 ^ (j % 64)))
+
+-- an accepted module's facts
+pub sound : (s : Areas) → Accepts s → Sound s
+sound s a = facts s (a .0) (a .1) .sound
+
+-- and how few mentions it has
+pub mentions-few : (s : Areas) → Sound s → mentionCount s ≤ 4096
+unfolding mentionCount recordsOf lengthOf allWords widths limits
+mentions-few s c = leb→le _ _ (c .few 7 (lit< tt))
+
+-- what the two stages do to the words, by the sizes and the bases they are given
+abbrev pub Stages : Areas → Bool → Sizes → Bases → List ℕ → List ℕ → List ℕ → Type 0
+Stages s keep z b before between after =
+    Marked s b
+    (rootsIn s keep (record { types = z .types; constants = z .constants; overrides = z .overrides; globals = z .globals; mentions = z .mentions }))
+    before between
+    → Holds between (sweepBits s b (room between) (take (z .types + z .expressions) (visits s (z .types) (z .expressions))) (member between)) after
+    → Marks s after (kept s keep)
+
+stages : (s : Areas) → Sound s → (keep : Bool) {before between after : List ℕ} → before ≡ replicate 320 0
+    → Stages s keep (sizesOf s) (bases (size s)) before between after
+stages s c keep {before} {between} {after} z r h =
+    let small : bases (size s) .end ≤ 20480 = omega (arith, records-few s c, end-records (size s) (omega (arith, records-few s c))) in
+    let wide : length before ≡ 320 = ap length z in
+    let same : length between ≡ 320 = r .as-long ∙ wide in
+    let empty : Marks s before [] = marks-none s before before (record { as-long = refl; none = λ j. ap (λ w. member w j) z ∙ zeros-hold 320 j }) in
+    let m = root-marks s c keep (omega arith) empty (subst (λ x. Marked s (bases (size s)) x before between) (roots-in s keep) r) in
+    kept-marks s c keep (omega arith) m
+    (subst (λ o. Holds between (sweepBits s (bases (size s)) (room between) o (member between)) after) (whole-order s (size s types + size s expressions) (le-refl _)) h)
+
+-- over emptied words, with the module's own sizes and bases, they leave what is kept
+pub marking : (s : Areas) → Accepts s → (keep : Bool) (z : Sizes) (b : Bases) → z ≡ sizesOf s → b ≡ bases (size s) → {before between after : List ℕ}
+    → before ≡ replicate 320 0 → Stages s keep z b before between after
+marking s a keep z b ze be {before} {between} {after} e =
+    subst (λ y. Stages s keep y b before between after) (sym ze)
+    (subst (λ y. Stages s keep (sizesOf s) y before between after) (sym be) (stages s (sound s a) keep e))

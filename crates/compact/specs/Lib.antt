@@ -1,0 +1,2 @@
+-- What the contract of `compact` cites.
+pub mod Answer

@@ -1,0 +1,182 @@
+// The entry: a flat shader module compacted in place, or refused with nothing changed.
+mod keep;
+
+ghost use mathlib.Core.Path.{_≡_};
+ghost use Rattle.definitions.specs.Areas.{areasOf};
+ghost use Rattle.adjust.specs.Rewrite.{mapsOf};
+ghost use Rattle.compact.specs.Answer.{keepOf, Compacts};
+use arena::handle_set::Bases;
+pub use faults::Fault;
+use faults::Verdict;
+
+// Whether named overrides and types and all globals are kept though nothing refers to them.
+pub enum KeepUnused {
+    No,
+    Yes,
+}
+
+// How many records of areas 0 to 6 were kept.
+pub struct Counts {
+    pub types: u32,
+    pub constants: u32,
+    pub overrides: u32,
+    pub globals: u32,
+    pub expressions: u32,
+    pub members: u32,
+    pub components: u32,
+}
+
+pub enum Compacted {
+    Kept(Counts),
+    Refused(Fault),
+}
+
+// Is it `KeepUnused::Yes` ?
+fn keeps(keep_unused: KeepUnused) -> bool
+    ensures { λ r. ⌜ r ≡ keepOf «keep_unused» ⌝ }
+{
+    match keep_unused {
+        KeepUnused::No => false,
+        KeepUnused::Yes => true,
+    }
+}
+
+// Compacts the module in eight areas, and writes where each old record went into five maps. As the Rust's `compact`.
+// Any words may be handed in. A refused module is left as it was, and so are the maps.
+pub fn compact(
+    types: &mut [u32],
+    constants: &mut [u32],
+    overrides: &mut [u32],
+    globals: &mut [u32],
+    expressions: &mut [u32],
+    members: &mut [u32],
+    components: &mut [u32],
+    mentions: &mut [u32],
+    type_map: &mut [u32],
+    constant_map: &mut [u32],
+    override_map: &mut [u32],
+    global_map: &mut [u32],
+    expression_map: &mut [u32],
+    keep_unused: KeepUnused,
+) -> Compacted
+    ensures { λ r. ⌜ Compacts (areasOf (now (types .entry)) (now (constants .entry)) (now (overrides .entry)) (now (globals .entry)) (now (expressions .entry)) (now (members .entry)) (now (components .entry)) (now (mentions .entry))) (mapsOf (now («type_map» .entry)) (now («constant_map» .entry)) (now («override_map» .entry)) (now («global_map» .entry)) (now («expression_map» .entry))) (keepOf «keep_unused») r (areasOf (now (types .exit)) (now (constants .exit)) (now (overrides .exit)) (now (globals .exit)) (now (expressions .exit)) (now (members .exit)) (now (components .exit)) (now (mentions .exit))) (mapsOf (now («type_map» .exit)) (now («constant_map» .exit)) (now («override_map» .exit)) (now («global_map» .exit)) (now («expression_map» .exit))) ⌝ }
+{
+    let v = faults::check(
+        types,
+        constants,
+        overrides,
+        globals,
+        expressions,
+        members,
+        components,
+        mentions,
+        type_map,
+        constant_map,
+        override_map,
+        global_map,
+        expression_map,
+    );
+    if let Verdict::Refused(f) = v {
+        return Compacted::Refused(f);
+    }
+    let z = keep::measure(
+        types,
+        constants,
+        overrides,
+        globals,
+        expressions,
+        members,
+        components,
+        mentions,
+    );
+    let b = Bases::of(z.types, z.constants, z.overrides, z.globals, z.expressions);
+    let mut marks = [0u64; 320];
+    keep::mark(
+        &mut marks,
+        keeps(keep_unused),
+        b,
+        z,
+        types,
+        constants,
+        overrides,
+        globals,
+        expressions,
+        members,
+        components,
+        mentions,
+    );
+    let kept_types = handle_map::from_set(&marks, 0, z.types, type_map);
+    let kept_constants = handle_map::from_set(&marks, b.constants, z.constants, constant_map);
+    let kept_overrides = handle_map::from_set(&marks, b.overrides, z.overrides, override_map);
+    let kept_globals = handle_map::from_set(&marks, b.globals, z.globals, global_map);
+    let kept_expressions = handle_map::from_set(
+        &marks,
+        b.expressions,
+        z.expressions,
+        expression_map,
+    );
+    let kept_members = adjust::adjust_pool(0, types, members, type_map);
+    let kept_components = adjust::adjust_pool(4, expressions, components, expression_map);
+    adjust::adjust_arena(
+        0,
+        types,
+        type_map,
+        constant_map,
+        override_map,
+        global_map,
+        expression_map,
+    );
+    adjust::adjust_arena(
+        1,
+        constants,
+        type_map,
+        constant_map,
+        override_map,
+        global_map,
+        expression_map,
+    );
+    adjust::adjust_arena(
+        2,
+        overrides,
+        type_map,
+        constant_map,
+        override_map,
+        global_map,
+        expression_map,
+    );
+    adjust::adjust_arena(
+        3,
+        globals,
+        type_map,
+        constant_map,
+        override_map,
+        global_map,
+        expression_map,
+    );
+    adjust::adjust_arena(
+        4,
+        expressions,
+        type_map,
+        constant_map,
+        override_map,
+        global_map,
+        expression_map,
+    );
+    adjust::adjust_mentions(
+        mentions,
+        type_map,
+        constant_map,
+        override_map,
+        global_map,
+        expression_map,
+    );
+    Compacted::Kept(Counts {
+        types: kept_types,
+        constants: kept_constants,
+        overrides: kept_overrides,
+        globals: kept_globals,
+        expressions: kept_expressions,
+        members: kept_members as u32,
+        components: kept_components as u32,
+    })
+}
