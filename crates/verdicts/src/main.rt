@@ -11,8 +11,8 @@ use arena::N;
 use libc::STDIN_FILENO;
 use libc::STDOUT_FILENO;
 
-// The most words that a module of the input has.
-const WORDS: usize = 45100;
+// The most words that a module of the input has. With the maps and the text the buffers are under 64 KiB.
+const WORDS: usize = 8200;
 
 // The letters of the areas, and of the maps.
 const LETTERS: [u8; 9] = [b't', b'c', b'o', b'g', b'e', b'm', b'k', b'q', b'r'];
@@ -249,7 +249,7 @@ fn report_all(text: &[u8]) {
 }
 
 fn main() {
-    let mut text = io::large_buffer();
+    let mut text = [0u8; 15360];
     let n = io::read_full(STDIN_FILENO, &mut text);
     report_all(&text[..n]);
 }
