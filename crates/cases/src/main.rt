@@ -5,7 +5,7 @@
 // it has, and the words; for each of the five maps how many words it has, each of which is 7 before.
 // A shown case has 13 lines more, one for each area and map: its name and its words, more than 64 equal ones in a row as `n*w`.
 // At text of another form the program ends with `case 5: bad input`, at too many words with `case 5: does not fit`, neither with a line for
-// the case; `?` stands for `case 5` where no case has begun.
+// the case; where no case has begun it is `? bad input` or `? does not fit`.
 mod output;
 mod text;
 

@@ -1,0 +1,231 @@
+// The C boundary: each function answers what the Rattle function of its name answers, as a plain C value. Any words may be handed in.
+ghost use mathlib.Core.Path.{_≡_};
+ghost use mathlib.Core.List.{[], _∷_};
+ghost use lib.ListN.{length};
+ghost use Rattle.definitions.specs.Areas.{areasOf};
+ghost use Rattle.definitions.specs.Refusals.{check};
+ghost use Rattle.definitions.specs.Outcome.{outcome};
+ghost use Rattle.definitions.specs.MapEntries.{lookup, adjust, range};
+ghost use Rattle.adjust.specs.Rewrite.{mapsOf};
+ghost use Rattle.faults.specs.Faults.{verdictOf};
+ghost use Rattle.compact.specs.Answer.{keepOf};
+ghost use Rattle.cadnohal.specs.Boundary.{keepWord, placed, answerOf, answerTo, outcomeIn, adjustedIn, rangedIn};
+use arena::N;
+use compact::Compacted;
+use compact::KeepUnused;
+use faults::Verdict;
+use handle_map::Adjusted;
+use handle_map::Ranged;
+
+// `cadnohal_answer`: where a module was refused and why, or how many records of areas 0 to 6 were kept.
+#[repr(C)]
+pub struct Answer {
+    pub number: u32,
+    pub area: u32,
+    pub record: u32,
+    pub types: u32,
+    pub constants: u32,
+    pub overrides: u32,
+    pub globals: u32,
+    pub expressions: u32,
+    pub members: u32,
+    pub components: u32,
+}
+
+// `cadnohal_adjusted`: the new handle, or N with the number that says why there is none.
+#[repr(C)]
+pub struct AdjustedAnswer {
+    pub number: u32,
+    pub handle: u32,
+}
+
+// `cadnohal_range`: the new range, or N..N with the number.
+#[repr(C)]
+pub struct RangeAnswer {
+    pub number: u32,
+    pub start: u32,
+    pub end: u32,
+}
+
+// 0 is `KeepUnused::No`, any other word is Yes.
+fn keep_from(word: u32) -> KeepUnused
+    ensures { λ r. ⌜ keepOf r ≡ keepWord word ⌝ }
+{
+    if word == 0 {
+        return KeepUnused::No;
+    }
+    KeepUnused::Yes
+}
+
+// A refusal, with counts 0; number 0 is no refusal.
+fn refusal(number: u32, area: u32, record: u32) -> Answer
+    ensures { λ r. ⌜ r ≡ placed number area «record» ⌝ }
+{
+    Answer {
+        number: number,
+        area: area,
+        record: record,
+        types: 0,
+        constants: 0,
+        overrides: 0,
+        globals: 0,
+        expressions: 0,
+        members: 0,
+        components: 0,
+    }
+}
+
+// What `compact` answered, in ten words.
+fn of_compacted(r: Compacted) -> Answer
+    ensures { λ a. ⌜ a ≡ answerOf r ⌝ }
+{
+    match r {
+        Compacted::Kept(n) => Answer {
+            number: 0,
+            area: 0,
+            record: 0,
+            types: n.types,
+            constants: n.constants,
+            overrides: n.overrides,
+            globals: n.globals,
+            expressions: n.expressions,
+            members: n.members,
+            components: n.components,
+        },
+        Compacted::Refused(f) => refusal(f.number, f.area, f.record),
+    }
+}
+
+// What `faults::check` answered, in ten words.
+fn of_verdict(v: Verdict) -> Answer
+    ensures { λ a. ⌜ a ≡ answerTo (verdictOf v) ⌝ }
+{
+    match v {
+        Verdict::Accepted => refusal(0, 0, 0),
+        Verdict::Refused(f) => refusal(f.number, f.area, f.record),
+    }
+}
+
+// `compact::compact`: the answer and every word of the thirteen slices are the outcome of document 01.
+#[no_mangle]
+pub extern "C" fn cadnohal_compact(
+    types: &mut [u32],
+    constants: &mut [u32],
+    overrides: &mut [u32],
+    globals: &mut [u32],
+    expressions: &mut [u32],
+    members: &mut [u32],
+    components: &mut [u32],
+    mentions: &mut [u32],
+    type_map: &mut [u32],
+    constant_map: &mut [u32],
+    override_map: &mut [u32],
+    global_map: &mut [u32],
+    expression_map: &mut [u32],
+    keep_unused: u32,
+) -> Answer
+    ensures { λ r. ⌜ outcomeIn r (areasOf (now (types .exit)) (now (constants .exit)) (now (overrides .exit)) (now (globals .exit)) (now (expressions .exit)) (now (members .exit)) (now (components .exit)) (now (mentions .exit))) (mapsOf (now («type_map» .exit)) (now («constant_map» .exit)) (now («override_map» .exit)) (now («global_map» .exit)) (now («expression_map» .exit))) ≡ outcome (areasOf (now (types .entry)) (now (constants .entry)) (now (overrides .entry)) (now (globals .entry)) (now (expressions .entry)) (now (members .entry)) (now (components .entry)) (now (mentions .entry))) (mapsOf (now («type_map» .entry)) (now («constant_map» .entry)) (now («override_map» .entry)) (now («global_map» .entry)) (now («expression_map» .entry))) (keepWord «keep_unused») ⌝ }
+{
+    let r = compact::compact(
+        types,
+        constants,
+        overrides,
+        globals,
+        expressions,
+        members,
+        components,
+        mentions,
+        type_map,
+        constant_map,
+        override_map,
+        global_map,
+        expression_map,
+        keep_from(keep_unused),
+    );
+    of_compacted(r)
+}
+
+// `faults::check`: numbers 1 to 7, or 0 for a module that `cadnohal_compact` would accept. Nothing is written.
+#[no_mangle]
+pub extern "C" fn cadnohal_check<'a>(
+    types: &'a [u32],
+    constants: &'a [u32],
+    overrides: &'a [u32],
+    globals: &'a [u32],
+    expressions: &'a [u32],
+    members: &'a [u32],
+    components: &'a [u32],
+    mentions: &'a [u32],
+    type_map: &'a [u32],
+    constant_map: &'a [u32],
+    override_map: &'a [u32],
+    global_map: &'a [u32],
+    expression_map: &'a [u32],
+) -> Answer
+    ensures { λ r. ⌜ r ≡ answerTo (check (areasOf (now (types .entry)) (now (constants .entry)) (now (overrides .entry)) (now (globals .entry)) (now (expressions .entry)) (now (members .entry)) (now (components .entry)) (now (mentions .entry))) (length (now («type_map» .entry)) ∷ length (now («constant_map» .entry)) ∷ length (now («override_map» .entry)) ∷ length (now («global_map» .entry)) ∷ length (now («expression_map» .entry)) ∷ [])) ⌝ }
+{
+    let v = faults::check(
+        types,
+        constants,
+        overrides,
+        globals,
+        expressions,
+        members,
+        components,
+        mentions,
+        type_map,
+        constant_map,
+        override_map,
+        global_map,
+        expression_map,
+    );
+    of_verdict(v)
+}
+
+// `handle_map::lookup`: the new handle, or N.
+#[no_mangle]
+pub extern "C" fn cadnohal_lookup(map: &[u32], handle: u32) -> u32
+    ensures { λ r. ⌜ r ≡ lookup (now (map .entry)) handle ⌝ }
+{
+    handle_map::lookup(map, handle)
+}
+
+// `handle_map::adjust`: the new handle, or 8 past the map's end and 9 where it was dropped.
+#[no_mangle]
+pub extern "C" fn cadnohal_adjust(map: &[u32], handle: u32) -> AdjustedAnswer
+    ensures { λ r. ⌜ adjustedIn r ≡ adjust (now (map .entry)) handle ⌝ }
+{
+    match handle_map::adjust(map, handle) {
+        Adjusted::To(h) => AdjustedAnswer {
+            number: 0,
+            handle: h,
+        },
+        Adjusted::PastEnd => AdjustedAnswer {
+            number: 8,
+            handle: N,
+        },
+        Adjusted::Dropped => AdjustedAnswer {
+            number: 9,
+            handle: N,
+        },
+    }
+}
+
+// `handle_map::adjust_range`: the range shrunk to its live handles, or 8.
+#[no_mangle]
+pub extern "C" fn cadnohal_adjust_range(map: &[u32], start: u32, end: u32) -> RangeAnswer
+    ensures { λ r. ⌜ rangedIn r ≡ range (now (map .entry)) start end ⌝ }
+{
+    match handle_map::adjust_range(map, start, end) {
+        Ranged::Span(a, b) => RangeAnswer {
+            number: 0,
+            start: a,
+            end: b,
+        },
+        Ranged::Refused => RangeAnswer {
+            number: 8,
+            start: N,
+            end: N,
+        },
+    }
+}

@@ -1,0 +1,127 @@
+/* Cadnohal: compacts a flat shader module in place, or refuses it with a number and a place and changes nothing.
+ *
+ * Link libcadnohal.a (`rt staticlib cadnohal` writes it to target/staticlib). It needs memset and nothing else, takes no
+ * memory, keeps no state, and holds less than 64 KiB of stack.
+ *
+ * Every function takes any words: it checks everything itself, and for each content of the slices its answer and every
+ * word afterwards are fixed, refused input too. That is proved of the library's code.
+ *
+ * One duty is the caller's, since nothing can check it: each pointer is good for its length, and the slices of one
+ * call don't overlap. A slice is a pointer and its length in words, not bytes; an empty one may be NULL with 0.
+ *
+ * The areas, in this order. A record is so many words; a handle is a record's place in its area, from 0.
+ *
+ *   0 types        kind, flags, a, b, tag                 at most  4096 records
+ *   1 constants    named, type, init, tag                          4096
+ *   2 overrides    named, type, init or N, tag                     4096
+ *   3 globals      type, init or N, tag                            4096
+ *   4 expressions  kind, nine slots, tag                           4096
+ *   5 members      one type handle                                16384
+ *   6 components   one expression handle                          16384
+ *   7 mentions     area 0 to 4, handle                             4096
+ *
+ * Each of areas 0 to 4 has a map of at least as many words as it has records.
+ *
+ * The numbers of an answer:
+ *
+ *   0  accepted
+ *   1  an area's length isn't a multiple of its record width
+ *   2  an area has more records than its limit
+ *   3  a map is shorter than its arena's record count; the area is the map's arena
+ *   4  a kind, flag, form, mention area, unused slot or pool run breaks the rules
+ *   5  expression kind 13 (GlobalVariable) or 27 (CallResult)
+ *   6  a handle that must be there is N, or any handle isn't below its area's record count
+ *   7  a type or expression isn't well ordered
+ *   8  map adjust or range: handle not below the map's length, range end above it, or range start after its end
+ *   9  map adjust: the handle was dropped
+ *
+ * 1 to 7 are tried in turn; within one number the first fault in area order, lowest record first, is the one reported.
+ */
+#ifndef CADNOHAL_H
+#define CADNOHAL_H
+
+#include <stddef.h>
+#include <stdint.h>
+
+#ifdef __cplusplus
+extern "C" {
+#endif
+
+/* "No handle". */
+#define CADNOHAL_N 4294967295u
+
+/* Accepted: number, area and record are 0, and the counts are the kept records of areas 0 to 6.
+ * Refused: number 1 to 7 and where the fault is; for 1 to 3 the record is 0. The counts are 0. */
+typedef struct {
+    uint32_t number, area, record;
+    uint32_t types, constants, overrides, globals, expressions, members, components;
+} cadnohal_answer;
+
+/* Compacts the module. keep_unused: 0 is KeepUnused::No, any other word is Yes (named types, named overrides and all
+ * globals stay though nothing refers to them).
+ *
+ * Refused: no word of the thirteen slices changes.
+ *
+ * Accepted: each of areas 0 to 6 holds its kept records in their old order, with the new handles in them, then N to its
+ * old end; runs have new starts; the mentions have the new handles in place. Each map holds, at each old record, the
+ * new handle, or N where the record was dropped; its words past the records stay. To compact the result again, lend
+ * each area cut to its count. */
+cadnohal_answer cadnohal_compact(
+    uint32_t *types, size_t types_length,
+    uint32_t *constants, size_t constants_length,
+    uint32_t *overrides, size_t overrides_length,
+    uint32_t *globals, size_t globals_length,
+    uint32_t *expressions, size_t expressions_length,
+    uint32_t *members, size_t members_length,
+    uint32_t *components, size_t components_length,
+    uint32_t *mentions, size_t mentions_length,
+    uint32_t *type_map, size_t type_map_length,
+    uint32_t *constant_map, size_t constant_map_length,
+    uint32_t *override_map, size_t override_map_length,
+    uint32_t *global_map, size_t global_map_length,
+    uint32_t *expression_map, size_t expression_map_length,
+    uint32_t keep_unused);
+
+/* What cadnohal_compact would refuse, and nothing more: number 0 where it would accept, with all counts 0 either way.
+ * Of the maps only the lengths are asked. Nothing changes. The keep flag has no part in it. */
+cadnohal_answer cadnohal_check(
+    const uint32_t *types, size_t types_length,
+    const uint32_t *constants, size_t constants_length,
+    const uint32_t *overrides, size_t overrides_length,
+    const uint32_t *globals, size_t globals_length,
+    const uint32_t *expressions, size_t expressions_length,
+    const uint32_t *members, size_t members_length,
+    const uint32_t *components, size_t components_length,
+    const uint32_t *mentions, size_t mentions_length,
+    const uint32_t *type_map, size_t type_map_length,
+    const uint32_t *constant_map, size_t constant_map_length,
+    const uint32_t *override_map, size_t override_map_length,
+    const uint32_t *global_map, size_t global_map_length,
+    const uint32_t *expression_map, size_t expression_map_length);
+
+/* The three map entries take any map and judge by the length they are given: hand in the part that a pass wrote, one
+ * word for each old record. They change nothing. */
+
+/* The new handle; N where the handle was dropped or is past the map's end. Never refused. */
+uint32_t cadnohal_lookup(const uint32_t *map, size_t map_length, uint32_t handle);
+
+typedef struct {
+    uint32_t number, handle;
+} cadnohal_adjusted;
+
+/* Number 0 and the new handle; 8 and N past the map's end; 9 and N where the handle was dropped. */
+cadnohal_adjusted cadnohal_adjust(const uint32_t *map, size_t map_length, uint32_t handle);
+
+typedef struct {
+    uint32_t number, start, end;
+} cadnohal_range;
+
+/* The handles from start to before end: number 0 and the range from the first kept one's new handle to the last one's
+ * plus 1, or 0..0 where none was kept; 8 and N..N where end is above the map's length or start after end. */
+cadnohal_range cadnohal_adjust_range(const uint32_t *map, size_t map_length, uint32_t start, uint32_t end);
+
+#ifdef __cplusplus
+}
+#endif
+
+#endif
