@@ -3,4 +3,7 @@
 set -euo pipefail
 cd "$(dirname "$0")"
 rt fmt --check
+bash build.sh
+bash host/test.sh
+echo "${SECONDS} s until here; now every crate, edit and program"
 rt ci

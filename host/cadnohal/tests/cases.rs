@@ -1,0 +1,326 @@
+//! Document 01's worked cases, words before and after written out. Each lent map has a word past its
+//! arena's records.
+
+mod common;
+
+use cadnohal::{
+    Expression, ExpressionHandle, HandleMap, KeepUnused, Maps, Module, Override, Type, TypeHandle,
+    TypeInner,
+};
+use common::{long_maps, maps, module, place};
+
+const EMPTY: [&str; 8] = [""; 8];
+
+/// Compacts and answers the counts; map words past the records are 7 before.
+fn compact(module: &mut Module, keep_unused: KeepUnused) -> ([u32; 7], Maps) {
+    let mut maps = long_maps(module);
+    let counts = module
+        .compact_into(keep_unused, &mut maps)
+        .expect("accepted");
+    (counts.to_array(), maps)
+}
+
+/// Sees that both passes accept the module and drop all of it.
+fn drops_all(module: &Module, after: [&str; 8], maps: [&str; 5]) {
+    for keep_unused in [KeepUnused::No, KeepUnused::Yes] {
+        let mut module = module.clone();
+        let answer = compact(&mut module, keep_unused);
+        assert_eq!(answer, ([0; 7], common::maps(maps)));
+        assert_eq!(module, common::module(after));
+    }
+}
+
+/// The module of cases 1 and 2.
+fn case_1() -> Module {
+    module([
+        "0 0 N N 10  2 1 0 0 11",
+        "",
+        "0 0 1 0",
+        "",
+        "0 9*N 20  0 9*N 21",
+        "",
+        "",
+        "",
+    ])
+}
+
+#[test]
+fn case_1_an_array_sized_by_an_override() {
+    let mut after = case_1();
+    let answer = compact(&mut after, KeepUnused::Yes);
+    assert_eq!(
+        answer,
+        (
+            [2, 0, 1, 0, 1, 0, 0],
+            maps(["0 1 7", "7", "0 7", "7", "N 0 7"])
+        )
+    );
+    let kept = [
+        "0 0 N N 10  2 1 0 0 11",
+        "",
+        "0 0 0 0",
+        "",
+        "0 9*N 21  11*N",
+        "",
+        "",
+        "",
+    ];
+    assert_eq!(after, module(kept));
+}
+
+#[test]
+fn case_1_with_maps_of_its_own_and_cut() {
+    let mut after = case_1();
+    let compacted = after.compact(KeepUnused::Yes).expect("accepted");
+    assert_eq!(compacted.maps, maps(["0 1", "", "0", "", "N 0"]));
+    after.truncate(&compacted.counts);
+    let cut = [
+        "0 0 N N 10  2 1 0 0 11",
+        "",
+        "0 0 0 0",
+        "",
+        "0 9*N 21",
+        "",
+        "",
+        "",
+    ];
+    assert_eq!(after, module(cut));
+}
+
+#[test]
+fn case_2_the_same_with_no() {
+    let mut after = case_1();
+    let answer = compact(&mut after, KeepUnused::No);
+    assert_eq!(answer, ([0; 7], maps(["N N 7", "7", "N 7", "7", "N N 7"])));
+    assert_eq!(after, module(["10*N", "", "4*N", "", "22*N", "", "", ""]));
+}
+
+/// An unnamed override with this init, and an unnamed array that it sizes.
+fn type_needs_expression(
+    module: &mut Module,
+    base: TypeHandle,
+    init: ExpressionHandle,
+) -> TypeHandle {
+    let size = module.add_override(Override {
+        named: false,
+        ty: base,
+        init: Some(init),
+        tag: 30,
+    });
+    module.add_type(Type::new(TypeInner::Pending { base, size }, 11))
+}
+
+#[test]
+fn case_3_type_expression_interdependence() {
+    let mut after = Module::new();
+    let scalar = after.add_type(Type::new(TypeInner::Leaf, 10));
+    let literal = after.add_expression(Expression::Literal, 20);
+    let expr_end = type_needs_expression(&mut after, scalar, literal);
+    let ty_trace = after.add_type(Type::new(TypeInner::Base(expr_end), 12));
+    let expr_init = after.add_expression(Expression::ZeroValue(ty_trace), 21);
+    after.add_override(Override {
+        named: true,
+        ty: scalar,
+        init: Some(expr_init),
+        tag: 31,
+    });
+    let ty_end = after.add_expression(Expression::ZeroValue(scalar), 22);
+    let expr_trace = after.add_expression(Expression::Load { pointer: ty_end }, 23);
+    let ty_init = type_needs_expression(&mut after, scalar, expr_trace);
+    after.add_type(Type::new(TypeInner::Base(ty_init), 13).named());
+
+    let untouched = module([
+        "0 0 N N 10  2 0 0 0 11  1 0 1 N 12  2 0 0 2 11  1 1 3 N 13",
+        "",
+        "0 0 0 30  1 0 1 31  0 0 3 30",
+        "",
+        "0 9*N 20  7 2 8*N 21  7 0 8*N 22  14 2 8*N 23",
+        "",
+        "",
+        "",
+    ]);
+    assert_eq!(after, untouched);
+    let answer = compact(&mut after, KeepUnused::Yes);
+    let whole = maps(["0 1 2 3 4 7", "7", "0 1 2 7", "7", "0 1 2 3 7"]);
+    assert_eq!(answer, ([5, 0, 3, 0, 4, 0, 0], whole));
+    assert_eq!(after, untouched);
+
+    let unused = after.add_expression(Expression::Literal, 24);
+    type_needs_expression(&mut after, scalar, unused);
+    let added = module([
+        "0 0 N N 10  2 0 0 0 11  1 0 1 N 12  2 0 0 2 11  1 1 3 N 13  2 0 0 3 11",
+        "",
+        "0 0 0 30  1 0 1 31  0 0 3 30  0 0 4 30",
+        "",
+        "0 9*N 20  7 2 8*N 21  7 0 8*N 22  14 2 8*N 23  0 9*N 24",
+        "",
+        "",
+        "",
+    ]);
+    assert_eq!(after, added);
+    let answer = compact(&mut after, KeepUnused::Yes);
+    let gone = maps(["0 1 2 3 4 N 7", "7", "0 1 2 N 7", "7", "0 1 2 3 N 7"]);
+    assert_eq!(answer, ([5, 0, 3, 0, 4, 0, 0], gone));
+    let kept = module([
+        "0 0 N N 10  2 0 0 0 11  1 0 1 N 12  2 0 0 2 11  1 1 3 N 13  5*N",
+        "",
+        "0 0 0 30  1 0 1 31  0 0 3 30  4*N",
+        "",
+        "0 9*N 20  7 2 8*N 21  7 0 8*N 22  14 2 8*N 23  11*N",
+        "",
+        "",
+        "",
+    ]);
+    assert_eq!(after, kept);
+}
+
+/// A leaf type, an unnamed constant with init 0, and these expressions.
+fn case_4(expressions: &str) -> Module {
+    module(["0 0 N N 0", "0 0 0 0", "", "", expressions, "", "", ""])
+}
+
+#[test]
+fn case_4_an_expression_and_the_constant_that_it_is_the_init_of() {
+    assert_eq!(place(&case_4("5 0 8*N 0")), [7, 4, 0]);
+    drops_all(
+        &case_4("0 9*N 0  5 0 8*N 0"),
+        ["5*N", "4*N", "", "", "22*N", "", "", ""],
+        ["N 7", "N 7", "7", "7", "N N 7"],
+    );
+}
+
+/// Leaf, array sized by an override with init 1, leaf, and these expressions.
+fn case_5(expressions: &str) -> Module {
+    module([
+        "0 0 N N 0  2 0 0 0 0  0 0 N N 1",
+        "",
+        "0 0 1 0",
+        "",
+        expressions,
+        "",
+        "",
+        "",
+    ])
+}
+
+#[test]
+fn case_5_the_running_largest_decides() {
+    assert_eq!(place(&case_5("7 2 8*N 0  0 9*N 0")), [7, 4, 0]);
+    drops_all(
+        &case_5("0 9*N 0  0 9*N 0  7 2 8*N 0"),
+        ["15*N", "", "4*N", "", "33*N", "", "", ""],
+        ["N N N 7", "7", "N 7", "7", "N N N 7"],
+    );
+}
+
+/// A named constant of a type with these flags.
+fn case_6(flags: u32) -> Module {
+    let mut module = module(["0 0 N N 0", "1 0 0 0", "", "", "0 9*N 0", "", "", ""]);
+    module.types[1] = flags;
+    module
+}
+
+#[test]
+fn case_6_a_named_constant_of_an_abstract_type() {
+    let mut after = case_6(2);
+    let answer = compact(&mut after, KeepUnused::Yes);
+    assert_eq!(answer, ([0; 7], maps(["N 7", "N 7", "7", "7", "N 7"])));
+    assert_eq!(after, module(["5*N", "4*N", "", "", "11*N", "", "", ""]));
+
+    let mut after = case_6(0);
+    let answer = compact(&mut after, KeepUnused::Yes);
+    assert_eq!(
+        answer,
+        ([1, 1, 0, 0, 1, 0, 0], maps(["0 7", "0 7", "7", "7", "0 7"]))
+    );
+    assert_eq!(after, case_6(0));
+}
+
+#[test]
+fn case_7_ranges_of_a_map() {
+    let map: HandleMap<ExpressionHandle> = HandleMap::from_words(common::words("N 0 N 1 2"));
+    let range = |start, end| map.adjust_range(start..end).map_err(|error| error.number);
+    assert_eq!(range(0, 1), Ok(0..0));
+    assert_eq!(range(0, 2), Ok(0..1));
+    assert_eq!(range(1, 4), Ok(0..2));
+    assert_eq!(range(2, 5), Ok(1..3));
+    assert_eq!(range(5, 5), Ok(0..0));
+    assert_eq!(range(0, 6), Err(8));
+    assert_eq!(range(3, 2), Err(8));
+}
+
+/// This many named leaf types, each with its place as tag.
+fn leaves(count: u32) -> Module {
+    let mut module = Module::new();
+    for tag in 0..count {
+        module.add_type(Type::new(TypeInner::Leaf, tag).named());
+    }
+    module
+}
+
+#[test]
+fn case_8_as_many_types_as_there_may_be() {
+    let mut after = leaves(4096);
+    let (counts, maps) = compact(&mut after, KeepUnused::Yes);
+    assert_eq!(counts, [4096, 0, 0, 0, 0, 0, 0]);
+    assert_eq!(maps.types.words(), [(0..4096).collect(), vec![7]].concat());
+    assert_eq!(after, leaves(4096));
+
+    let (counts, maps) = compact(&mut after, KeepUnused::No);
+    assert_eq!(counts, [0; 7]);
+    assert_eq!(maps.types.words(), common::words("4096*N 7"));
+    assert_eq!(after, module(["20480*N", "", "", "", "", "", "", ""]));
+
+    assert_eq!(place(&leaves(4097)), [2, 0, 0]);
+}
+
+/// A `Literal` and the expression under test.
+fn case_9(expression: &str) -> Module {
+    let expressions = format!("0 9*N 0  {expression}");
+    module(["", "", "", "", &expressions, "", "", ""])
+}
+
+#[test]
+fn case_9_the_last_kind_and_the_first_that_is_none() {
+    drops_all(
+        &case_9("33 0 0 0 6*N 0"),
+        ["", "", "", "", "22*N", "", "", ""],
+        ["7", "7", "7", "7", "N N 7"],
+    );
+    assert_eq!(place(&case_9("34 9*N 0")), [4, 4, 1]);
+    assert_eq!(place(&case_9("13 9*N 0")), [5, 4, 1]);
+}
+
+#[test]
+fn case_10_numbers_are_tried_in_turn() {
+    let bad = module(["1 0 7 N 0", "", "", "", "34 9*N 0", "", "", ""]);
+    assert_eq!(place(&bad), [4, 4, 0]);
+}
+
+#[test]
+fn case_11_everything_empty() {
+    for keep_unused in [KeepUnused::No, KeepUnused::Yes] {
+        let mut after = Module::new();
+        let compacted = after.compact(keep_unused).expect("accepted");
+        assert_eq!(compacted.counts.to_array(), [0; 7]);
+        assert_eq!(compacted.maps, maps(["", "", "", "", ""]));
+        assert_eq!(after, module(EMPTY));
+    }
+}
+
+#[test]
+fn case_12_two_equal_mentions() {
+    let mut after = Module {
+        mentions: vec![0, 1, 0, 1],
+        ..leaves(3)
+    };
+    let answer = compact(&mut after, KeepUnused::No);
+    assert_eq!(
+        answer,
+        ([1, 0, 0, 0, 0, 0, 0], maps(["N 0 N 7", "7", "7", "7", "7"]))
+    );
+    assert_eq!(
+        after,
+        module(["0 1 N N 1  10*N", "", "", "", "", "", "", "0 0 0 0"])
+    );
+}
