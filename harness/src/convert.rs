@@ -1,0 +1,671 @@
+//! A flat module as a module of the published compactor, and back.
+//!
+//! Each element carries its old number in its span, and a second time in its name, its mark or its
+//! literal where it has one. So the maps can be read off the module after the pass.
+
+use crate::flat::{self, *};
+use crate::rng::Rng;
+use crate::roads::{self, Laid, Road};
+use published::{
+    Any, Arena, ArraySize, BinaryOperator, Constant, CooperativeData, DocComments, Expression,
+    FastIndexMap, GlobalVariable, Handle, ImageQuery, Literal, Module, Override, SampleLevel,
+    Scalar, ScalarKind, Span, StructMember, Type, TypeInner, VectorSize,
+};
+
+/// The first mark of a type: below it lie the widths of the scalars that have names.
+const FIRST_MARK: u32 = 16;
+
+/// Handles above this are not handed to the published compactor, whose sets would grow as far.
+const HIGHEST: u32 = 1 << 16;
+
+/// A module for the published compactor and where its mentions went.
+pub struct Built {
+    pub module: Module,
+    pub laid: Laid,
+    /// The type that is the scalar u32, if any.
+    stage_type: Option<usize>,
+}
+
+pub fn handle<T>(word: u32) -> Handle<T> {
+    Handle::from_usize(word as usize)
+}
+
+pub fn word<T>(handle: Handle<T>) -> u32 {
+    handle.index() as u32
+}
+
+fn option<T>(word: u32) -> Option<Handle<T>> {
+    (word != N).then(|| handle(word))
+}
+
+fn option_word<T>(given: Option<Handle<T>>) -> u32 {
+    given.map_or(N, word)
+}
+
+fn name_of(named: bool, old: usize) -> Option<String> {
+    named.then(|| old.to_string())
+}
+
+fn span_of(old: usize) -> Span {
+    Span::new(old as u32, N)
+}
+
+/// Whether the published types can hold the words: every handle that must be there is there. The areas
+/// must pass numbers 1 to 4.
+pub fn holdable(flat: &Flat) -> bool {
+    let mut good = true;
+    for area in 0..5 {
+        for place in 0..flat.records(area) {
+            handles(flat, area, place, |_, handle| good &= handle < HIGHEST);
+        }
+    }
+    for expression in flat.areas[EXPRESSIONS].chunks(11) {
+        if let GLOBAL_VARIABLE | CALL_RESULT = expression[0] {
+            good &= expression[1] < HIGHEST;
+        }
+    }
+    good && flat.areas[MENTIONS]
+        .chunks(2)
+        .all(|mention| mention[1] < HIGHEST)
+}
+
+/// The module with its mentions laid on these roads.
+pub fn build(flat: &Flat, keep: bool, chosen: &[Road], rng: &mut Rng) -> Built {
+    let stage_type = (chosen.iter().position(|road| *road == Road::Stage))
+        .map(|mention| flat.record(MENTIONS, mention)[1] as usize);
+    let mut module = Module::default();
+    for place in 0..flat.records(TYPES) {
+        let ty = type_from(flat, place, stage_type == Some(place), rng);
+        let given = module.types.insert(ty, span_of(place));
+        assert_eq!(given.index(), place, "each type is its own");
+    }
+    for (old, record) in flat.areas[CONSTANTS].chunks(4).enumerate() {
+        let constant = Constant {
+            name: name_of(record[0] == 1, old),
+            ty: handle(record[1]),
+            init: handle(record[2]),
+        };
+        module.constants.append(constant, span_of(old));
+    }
+    for (old, record) in flat.areas[OVERRIDES].chunks(4).enumerate() {
+        let item = Override {
+            name: name_of(record[0] == 1, old),
+            id: rng.one_in(2).then_some(old as u32),
+            ty: handle(record[1]),
+            init: option(record[2]),
+        };
+        module.overrides.append(item, span_of(old));
+    }
+    for (old, record) in flat.areas[GLOBALS].chunks(3).enumerate() {
+        let global = GlobalVariable {
+            name: name_of(rng.one_in(2), old),
+            ty: handle(record[0]),
+            init: option(record[1]),
+        };
+        module.global_variables.append(global, span_of(old));
+    }
+    for place in 0..flat.records(EXPRESSIONS) {
+        let expression = expression_from(flat, place);
+        module.global_expressions.append(expression, span_of(place));
+    }
+    if rng.one_in(4) {
+        module.doc_comments = Some(Box::new(comments(flat)));
+    }
+    let laid = roads::lay(&mut module, flat, keep, chosen, rng);
+    Built {
+        module,
+        laid,
+        stage_type,
+    }
+}
+
+/// A comment with its old number on each type, constant and global: a second way to read their maps.
+fn comments(flat: &Flat) -> DocComments {
+    let mut comments = DocComments::default();
+    let text = |old: u32| vec![old.to_string()];
+    for old in 0..flat.records(TYPES) as u32 {
+        comments.types.insert(handle(old), text(old));
+    }
+    for old in 0..flat.records(CONSTANTS) as u32 {
+        comments.constants.insert(handle(old), text(old));
+    }
+    for old in 0..flat.records(GLOBALS) as u32 {
+        comments.global_variables.insert(handle(old), text(old));
+    }
+    comments
+}
+
+/// The map that the comments of an area give.
+fn commented<T>(comments: &FastIndexMap<Handle<T>, Vec<String>>, records: usize) -> Vec<u32> {
+    let mut map = vec![N; records];
+    for (handle, text) in comments {
+        let old: usize = text[0].parse().expect("a comment is a number");
+        map[old] = word(*handle);
+    }
+    map
+}
+
+/// Holds the maps that the comments give against those that the spans give.
+fn read_comments(module: &Module, after: &After) -> Result<(), String> {
+    let Some(comments) = &module.doc_comments else {
+        return Ok(());
+    };
+    let maps = &after.maps;
+    let same = maps[TYPES] == commented(&comments.types, maps[TYPES].len())
+        && maps[CONSTANTS] == commented(&comments.constants, maps[CONSTANTS].len())
+        && maps[GLOBALS] == commented(&comments.global_variables, maps[GLOBALS].len());
+    if same {
+        return Ok(());
+    }
+    Err(String::from(
+        "the comments moved otherwise than their elements",
+    ))
+}
+
+fn type_from(flat: &Flat, place: usize, stage: bool, rng: &mut Rng) -> Type {
+    let record = flat.record(TYPES, place);
+    let named = record[1] & NAMED != 0;
+    let is_abstract = record[1] & flat::ABSTRACT != 0;
+    let mark = FIRST_MARK + place as u32 + if is_abstract { published::ABSTRACT } else { 0 };
+    let inner = match record[0] {
+        0 if stage => TypeInner::Scalar(Scalar::U32),
+        0 => leaf(mark, rng),
+        1 => based(handle(record[2]), mark, rng),
+        2 => {
+            let base = handle(record[2]);
+            let size = ArraySize::Pending(handle(record[3]));
+            // Only its name tells such a binding array from its equals.
+            if named && !is_abstract && rng.one_in(2) {
+                TypeInner::BindingArray { base, size }
+            } else {
+                let stride = mark;
+                TypeInner::Array { base, size, stride }
+            }
+        }
+        _ => {
+            let (start, count) = (record[2] as usize, record[3] as usize);
+            let run = flat.areas[MEMBERS][start..start + count].iter();
+            let members = run.map(|ty| StructMember { ty: handle(*ty) }).collect();
+            TypeInner::Struct {
+                members,
+                span: mark,
+            }
+        }
+    };
+    Type {
+        name: name_of(named, place),
+        inner,
+    }
+}
+
+/// A type without handles.
+fn leaf(mark: u32, rng: &mut Rng) -> TypeInner {
+    let kinds = [
+        ScalarKind::Bool,
+        ScalarKind::Sint,
+        ScalarKind::Uint,
+        ScalarKind::Float,
+    ];
+    let scalar = Scalar::new(*rng.pick(&kinds), mark);
+    let size = *rng.pick(&[VectorSize::Bi, VectorSize::Tri, VectorSize::Quad]);
+    match rng.below(10) {
+        0 => TypeInner::Scalar(scalar),
+        1 => TypeInner::Vector { size, scalar },
+        2 => TypeInner::Matrix { scalar },
+        3 => TypeInner::CooperativeMatrix { scalar },
+        4 => TypeInner::Atomic(scalar),
+        5 => TypeInner::ValuePointer { space: mark },
+        6 => TypeInner::Image { class: mark },
+        7 => TypeInner::Sampler { class: mark },
+        8 => TypeInner::AccelerationStructure { class: mark },
+        _ => TypeInner::RayQuery { class: mark },
+    }
+}
+
+/// A type with a base and no override.
+fn based(base: Handle<Type>, mark: u32, rng: &mut Rng) -> TypeInner {
+    let stride = mark;
+    match rng.below(4) {
+        0 => TypeInner::Pointer { base, space: mark },
+        1 => {
+            let size = ArraySize::Constant(7);
+            TypeInner::Array { base, size, stride }
+        }
+        2 => {
+            let size = ArraySize::Dynamic;
+            TypeInner::Array { base, size, stride }
+        }
+        _ => {
+            let size = ArraySize::Constant(mark);
+            TypeInner::BindingArray { base, size }
+        }
+    }
+}
+
+fn expression_from(flat: &Flat, place: usize) -> Expression {
+    use Expression as Ex;
+    let record = flat.record(EXPRESSIONS, place);
+    let slot = |number: usize| record[1 + number];
+    let needed = |number: usize| handle::<Expression>(slot(number));
+    let maybe = |number: usize| option::<Expression>(slot(number));
+    let old = place as u32;
+    match record[0] {
+        0 => Ex::Literal(Literal::U32(old)),
+        1 => Ex::FunctionArgument(old),
+        2 => Ex::LocalVariable(handle(old)),
+        3 => Ex::SubgroupBallotResult,
+        4 => Ex::RayQueryProceedResult,
+        5 => Ex::Constant(handle(slot(0))),
+        6 => Ex::Override(handle(slot(0))),
+        7 => Ex::ZeroValue(handle(slot(0))),
+        8 => {
+            let (start, count) = (slot(1) as usize, slot(2) as usize);
+            let run = flat.areas[COMPONENTS][start..start + count].iter();
+            Ex::Compose {
+                ty: handle(slot(0)),
+                components: run.map(|item| handle(*item)).collect(),
+            }
+        }
+        9 => Ex::Access {
+            base: needed(0),
+            index: needed(1),
+        },
+        10 => Ex::AccessIndex {
+            base: needed(0),
+            index: old,
+        },
+        11 => Ex::Splat {
+            size: VectorSize::Bi,
+            value: needed(0),
+        },
+        12 => Ex::Swizzle {
+            size: VectorSize::Bi,
+            vector: needed(0),
+            pattern: Any::One,
+        },
+        13 => Ex::GlobalVariable(handle(slot(0))),
+        14 => Ex::Load { pointer: needed(0) },
+        15 => Ex::ImageSample {
+            image: needed(0),
+            sampler: needed(1),
+            gather: None,
+            coordinate: needed(2),
+            array_index: maybe(3),
+            offset: maybe(4),
+            level: match slot(LEVEL_FORM) {
+                0 => SampleLevel::Auto,
+                1 => SampleLevel::Zero,
+                2 => SampleLevel::Exact(needed(6)),
+                3 => SampleLevel::Bias(needed(6)),
+                _ => SampleLevel::Gradient {
+                    x: needed(6),
+                    y: needed(7),
+                },
+            },
+            depth_ref: maybe(8),
+            clamp_to_edge: false,
+        },
+        16 => Ex::ImageLoad {
+            image: needed(0),
+            coordinate: needed(1),
+            array_index: maybe(2),
+            sample: maybe(3),
+            level: maybe(4),
+        },
+        17 => Ex::ImageQuery {
+            image: needed(0),
+            query: match slot(QUERY_FORM) {
+                0 => ImageQuery::Size { level: maybe(2) },
+                1 => ImageQuery::NumLevels,
+                2 => ImageQuery::NumLayers,
+                _ => ImageQuery::NumSamples,
+            },
+        },
+        18 => Ex::RayQueryVertexPositions {
+            query: needed(0),
+            committed: true,
+        },
+        19 => Ex::Unary {
+            op: Any::One,
+            expr: needed(0),
+        },
+        20 => Ex::Binary {
+            op: BinaryOperator::Add,
+            left: needed(0),
+            right: needed(1),
+        },
+        21 => Ex::Select {
+            condition: needed(0),
+            accept: needed(1),
+            reject: needed(2),
+        },
+        22 => Ex::Derivative {
+            axis: Any::One,
+            ctrl: Any::One,
+            expr: needed(0),
+        },
+        23 => Ex::Relational {
+            fun: Any::One,
+            argument: needed(0),
+        },
+        24 => Ex::Math {
+            fun: Any::One,
+            arg: needed(0),
+            arg1: maybe(1),
+            arg2: maybe(2),
+            arg3: maybe(3),
+        },
+        25 => Ex::As {
+            expr: needed(0),
+            kind: ScalarKind::Sint,
+            convert: Some(old),
+        },
+        26 => Ex::ArrayLength(needed(0)),
+        27 => Ex::CallResult(handle(slot(0))),
+        28 => Ex::AtomicResult {
+            ty: handle(slot(0)),
+            comparison: false,
+        },
+        29 => Ex::WorkGroupUniformLoadResult {
+            ty: handle(slot(0)),
+        },
+        30 => Ex::SubgroupOperationResult {
+            ty: handle(slot(0)),
+        },
+        31 => Ex::RayQueryGetIntersection {
+            query: needed(0),
+            committed: false,
+        },
+        32 => Ex::CooperativeLoad {
+            columns: VectorSize::Tri,
+            data: CooperativeData {
+                pointer: needed(0),
+                stride: needed(1),
+            },
+        },
+        _ => Ex::CooperativeMultiplyAdd {
+            a: needed(0),
+            b: needed(1),
+            c: needed(2),
+        },
+    }
+}
+
+/// What the module is after the pass, as words; or what about it makes no sense.
+pub fn read(flat: &Flat, built: &Built) -> Result<After, String> {
+    let mut after = After {
+        counts: [0; 7],
+        areas: Default::default(),
+        maps: std::array::from_fn(|area| vec![N; flat.records(area)]),
+    };
+    read_types(flat, built, &mut after)?;
+    read_constants(flat, &built.module, &mut after)?;
+    read_overrides(flat, &built.module, &mut after)?;
+    read_globals(flat, &built.module, &mut after)?;
+    read_expressions(flat, &built.module, &mut after)?;
+    read_comments(&built.module, &after)?;
+    let new_stage = built.stage_type.map(|old| after.maps[TYPES][old]);
+    let handles = roads::read(&built.module, &built.laid, new_stage)?;
+    for (mention, handle) in flat.areas[MENTIONS].chunks(2).zip(handles) {
+        after.areas[MENTIONS].extend([mention[0], handle]);
+    }
+    for area in 0..7 {
+        after.counts[area] = (after.areas[area].len() / WIDTHS[area]) as u32;
+        after.areas[area].resize(flat.areas[area].len(), N);
+    }
+    Ok(after)
+}
+
+/// Notes in the map that the element with this span now stands at `new`, and gives its old record.
+fn place<'a>(
+    flat: &'a Flat,
+    after: &mut After,
+    area: usize,
+    span: Span,
+    new: usize,
+) -> Result<&'a [u32], String> {
+    let old = span.start as usize;
+    match after.maps[area].get_mut(old) {
+        Some(word) if *word == N => *word = new as u32,
+        _ => return Err(format!("{} at {new}: old number {old}", AREAS[area])),
+    }
+    Ok(flat.record(area, old))
+}
+
+/// Holds a second mark against the old number.
+fn same(area: usize, old: u32, mark: Option<u32>) -> Result<(), String> {
+    match mark {
+        Some(mark) if mark != old => Err(format!("{} {old}: carries {mark}", AREAS[area])),
+        _ => Ok(()),
+    }
+}
+
+/// The number that a name stands for.
+fn named_mark(name: &Option<String>) -> Option<u32> {
+    name.as_ref()
+        .map(|name| name.parse().expect("a name is a number"))
+}
+
+fn read_types(flat: &Flat, built: &Built, after: &mut After) -> Result<(), String> {
+    let types = &built.module.types;
+    for (at, ty) in types.iter() {
+        let span = types.get_span(at);
+        let tag = place(flat, after, TYPES, span, at.index())?[4];
+        same(TYPES, span.start, named_mark(&ty.name))?;
+        let mark = ty.inner.mark() & !published::ABSTRACT;
+        same(TYPES, span.start, mark.checked_sub(FIRST_MARK))?;
+        let is_abstract = ty.inner.is_abstract(types);
+        let flags = u32::from(ty.name.is_some()) + if is_abstract { flat::ABSTRACT } else { 0 };
+        let [kind, a, b] = type_words(&ty.inner, &mut after.areas[MEMBERS]);
+        after.areas[TYPES].extend([kind, flags, a, b, tag]);
+    }
+    Ok(())
+}
+
+/// Kind, a and b; the members go to the pool.
+fn type_words(inner: &TypeInner, members_after: &mut Vec<u32>) -> [u32; 3] {
+    match *inner {
+        TypeInner::Pointer { base, .. } => [1, word(base), N],
+        TypeInner::Array { base, size, .. } | TypeInner::BindingArray { base, size } => {
+            match size {
+                ArraySize::Pending(item) => [2, word(base), word(item)],
+                ArraySize::Constant(_) | ArraySize::Dynamic => [1, word(base), N],
+            }
+        }
+        TypeInner::Struct { ref members, .. } => {
+            let start = members_after.len() as u32;
+            members_after.extend(members.iter().map(|member| word(member.ty)));
+            [3, start, members.len() as u32]
+        }
+        _ => [0, N, N],
+    }
+}
+
+fn read_constants(flat: &Flat, module: &Module, after: &mut After) -> Result<(), String> {
+    for (at, item) in module.constants.iter() {
+        let span = module.constants.get_span(at);
+        let tag = place(flat, after, CONSTANTS, span, at.index())?[3];
+        same(CONSTANTS, span.start, named_mark(&item.name))?;
+        let named = u32::from(item.name.is_some());
+        after.areas[CONSTANTS].extend([named, word(item.ty), word(item.init), tag]);
+    }
+    Ok(())
+}
+
+fn read_overrides(flat: &Flat, module: &Module, after: &mut After) -> Result<(), String> {
+    for (at, item) in module.overrides.iter() {
+        let span = module.overrides.get_span(at);
+        let tag = place(flat, after, OVERRIDES, span, at.index())?[3];
+        same(OVERRIDES, span.start, named_mark(&item.name))?;
+        same(OVERRIDES, span.start, item.id)?;
+        let named = u32::from(item.name.is_some());
+        after.areas[OVERRIDES].extend([named, word(item.ty), option_word(item.init), tag]);
+    }
+    Ok(())
+}
+
+fn read_globals(flat: &Flat, module: &Module, after: &mut After) -> Result<(), String> {
+    for (at, item) in module.global_variables.iter() {
+        let span = module.global_variables.get_span(at);
+        let tag = place(flat, after, GLOBALS, span, at.index())?[2];
+        same(GLOBALS, span.start, named_mark(&item.name))?;
+        after.areas[GLOBALS].extend([word(item.ty), option_word(item.init), tag]);
+    }
+    Ok(())
+}
+
+fn read_expressions(flat: &Flat, module: &Module, after: &mut After) -> Result<(), String> {
+    let arena: &Arena<Expression> = &module.global_expressions;
+    for (at, expression) in arena.iter() {
+        let span = arena.get_span(at);
+        let tag = place(flat, after, EXPRESSIONS, span, at.index())?[10];
+        same(EXPRESSIONS, span.start, expression_mark(expression))?;
+        let mut record = [N; 11];
+        record[10] = tag;
+        expression_words(expression, &mut record, &mut after.areas[COMPONENTS]);
+        after.areas[EXPRESSIONS].extend(record);
+    }
+    Ok(())
+}
+
+/// The old number that some kinds carry themselves.
+fn expression_mark(expression: &Expression) -> Option<u32> {
+    match *expression {
+        Expression::Literal(Literal::U32(old)) | Expression::FunctionArgument(old) => Some(old),
+        Expression::LocalVariable(handle) => Some(word(handle)),
+        Expression::AccessIndex { index, .. } => Some(index),
+        Expression::As { convert, .. } => convert,
+        _ => None,
+    }
+}
+
+/// Writes kind and slots; the components go to the pool.
+fn expression_words(
+    expression: &Expression,
+    record: &mut [u32; 11],
+    components_after: &mut Vec<u32>,
+) {
+    use Expression as Ex;
+    let mut put = |kind: u32, slots: &[u32]| {
+        record[0] = kind;
+        record[1..=slots.len()].copy_from_slice(slots);
+    };
+    match *expression {
+        Ex::Literal(_) => put(0, &[]),
+        Ex::FunctionArgument(_) => put(1, &[]),
+        Ex::LocalVariable(_) => put(2, &[]),
+        Ex::SubgroupBallotResult => put(3, &[]),
+        Ex::RayQueryProceedResult => put(4, &[]),
+        Ex::Constant(handle) => put(5, &[word(handle)]),
+        Ex::Override(handle) => put(6, &[word(handle)]),
+        Ex::ZeroValue(ty) => put(7, &[word(ty)]),
+        Ex::Compose { ty, ref components } => {
+            let start = components_after.len() as u32;
+            components_after.extend(components.iter().map(|item| word(*item)));
+            put(8, &[word(ty), start, components.len() as u32]);
+        }
+        Ex::Access { base, index } => put(9, &[word(base), word(index)]),
+        Ex::AccessIndex { base, .. } => put(10, &[word(base)]),
+        Ex::Splat { value, .. } => put(11, &[word(value)]),
+        Ex::Swizzle { vector, .. } => put(12, &[word(vector)]),
+        Ex::GlobalVariable(handle) => put(13, &[word(handle)]),
+        Ex::Load { pointer } => put(14, &[word(pointer)]),
+        Ex::ImageSample {
+            image,
+            sampler,
+            coordinate,
+            array_index,
+            offset,
+            level,
+            depth_ref,
+            ..
+        } => {
+            let [form, x, y] = level_words(level);
+            let (image, sampler, coordinate) = (word(image), word(sampler), word(coordinate));
+            let (array_index, offset) = (option_word(array_index), option_word(offset));
+            let depth_ref = option_word(depth_ref);
+            put(
+                15,
+                &[
+                    image,
+                    sampler,
+                    coordinate,
+                    array_index,
+                    offset,
+                    form,
+                    x,
+                    y,
+                    depth_ref,
+                ],
+            );
+        }
+        Ex::ImageLoad {
+            image,
+            coordinate,
+            array_index,
+            sample,
+            level,
+        } => {
+            let (array_index, sample) = (option_word(array_index), option_word(sample));
+            let level = option_word(level);
+            put(
+                16,
+                &[word(image), word(coordinate), array_index, sample, level],
+            );
+        }
+        Ex::ImageQuery { image, query } => {
+            let (form, level) = match query {
+                ImageQuery::Size { level } => (0, option_word(level)),
+                ImageQuery::NumLevels => (1, N),
+                ImageQuery::NumLayers => (2, N),
+                ImageQuery::NumSamples => (3, N),
+            };
+            put(17, &[word(image), form, level]);
+        }
+        Ex::RayQueryVertexPositions { query, .. } => put(18, &[word(query)]),
+        Ex::Unary { expr, .. } => put(19, &[word(expr)]),
+        Ex::Binary { left, right, .. } => put(20, &[word(left), word(right)]),
+        Ex::Select {
+            condition,
+            accept,
+            reject,
+        } => put(21, &[word(condition), word(accept), word(reject)]),
+        Ex::Derivative { expr, .. } => put(22, &[word(expr)]),
+        Ex::Relational { argument, .. } => put(23, &[word(argument)]),
+        Ex::Math {
+            arg,
+            arg1,
+            arg2,
+            arg3,
+            ..
+        } => put(
+            24,
+            &[
+                word(arg),
+                option_word(arg1),
+                option_word(arg2),
+                option_word(arg3),
+            ],
+        ),
+        Ex::As { expr, .. } => put(25, &[word(expr)]),
+        Ex::ArrayLength(expr) => put(26, &[word(expr)]),
+        Ex::CallResult(function) => put(27, &[word(function)]),
+        Ex::AtomicResult { ty, .. } => put(28, &[word(ty)]),
+        Ex::WorkGroupUniformLoadResult { ty } => put(29, &[word(ty)]),
+        Ex::SubgroupOperationResult { ty } => put(30, &[word(ty)]),
+        Ex::RayQueryGetIntersection { query, .. } => put(31, &[word(query)]),
+        Ex::CooperativeLoad { ref data, .. } => put(32, &[word(data.pointer), word(data.stride)]),
+        Ex::CooperativeMultiplyAdd { a, b, c } => put(33, &[word(a), word(b), word(c)]),
+    }
+}
+
+/// Form, x and y.
+fn level_words(level: SampleLevel) -> [u32; 3] {
+    match level {
+        SampleLevel::Auto => [0, N, N],
+        SampleLevel::Zero => [1, N, N],
+        SampleLevel::Exact(x) => [2, word(x), N],
+        SampleLevel::Bias(x) => [3, word(x), N],
+        SampleLevel::Gradient { x, y } => [4, word(x), word(y)],
+    }
+}

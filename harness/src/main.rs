@@ -1,0 +1,42 @@
+//! Runs the published compactor of naga 30.0.1, unchanged, against the static library of Cadnohal.
+
+#[cfg(published)]
+mod cases;
+mod closure;
+mod command;
+mod compare;
+#[cfg(published)]
+mod convert;
+mod expect;
+#[cfg(library)]
+mod ffi;
+mod flat;
+mod generate;
+mod library;
+#[cfg(published)]
+mod made_maps;
+mod maps;
+#[cfg(published)]
+mod record;
+mod replay;
+mod report;
+mod rng;
+#[cfg(published)]
+mod roads;
+mod run;
+#[cfg(published)]
+mod rust;
+mod shrink;
+#[cfg(test)]
+mod tests;
+mod text;
+#[cfg(published)]
+mod time;
+#[cfg(published)]
+mod uses;
+
+use std::process::ExitCode;
+
+fn main() -> ExitCode {
+    command::main(std::env::args().skip(1).collect())
+}

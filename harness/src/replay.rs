@@ -1,0 +1,57 @@
+//! Replays recorded cases against the library alone.
+
+use crate::library::Library;
+use crate::text::{parse, replayed};
+use std::path::{Path, PathBuf};
+
+/// Replays one file. Gives how many cases it has, and the first line that differs.
+pub fn replay(library: &dyn Library, file: &Path) -> Result<(usize, Option<String>), String> {
+    let read = |path: &Path| {
+        std::fs::read_to_string(path).map_err(|why| format!("{}: {why}", path.display()))
+    };
+    let input = read(file)?;
+    let wanted = read(&file.with_extension("stdout"))?;
+    let cases = parse(&input).map_err(|why| format!("{}: {why}", file.display()))?;
+    let mut got = String::new();
+    for case in &cases {
+        got.push_str(&replayed(library, case));
+    }
+    Ok((cases.len(), first_difference(&got, &wanted)))
+}
+
+/// The first line in which two texts differ.
+fn first_difference(got: &str, wanted: &str) -> Option<String> {
+    if got == wanted {
+        return None;
+    }
+    let (mut got, mut wanted) = (got.lines(), wanted.lines());
+    for line in 1.. {
+        match (got.next(), wanted.next()) {
+            (None, None) => break,
+            (one, other) if one == other => {}
+            (one, other) => {
+                let text = |line: Option<&str>| line.unwrap_or("the end").to_string();
+                return Some(format!(
+                    "line {line} is {} and not {}",
+                    text(one),
+                    text(other)
+                ));
+            }
+        }
+    }
+    Some(String::from("the line ends differ"))
+}
+
+/// Where the recorded answers stand: beside the program that reads them.
+pub const RECORDED: &str = concat!(env!("CARGO_MANIFEST_DIR"), "/../crates/cases/answers");
+
+/// The recorded files.
+pub fn recorded_files() -> Vec<PathBuf> {
+    let entries = std::fs::read_dir(RECORDED).into_iter().flatten().flatten();
+    let mut files: Vec<PathBuf> = entries
+        .map(|entry| entry.path())
+        .filter(|path| path.extension().is_some_and(|end| end == "stdin"))
+        .collect();
+    files.sort();
+    files
+}

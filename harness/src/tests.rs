@@ -1,0 +1,472 @@
+//! The harness tested: it passes what is right, and it catches each sort of wrong answer.
+
+use crate::compare::{entries, judge};
+use crate::expect::expect_check;
+use crate::flat::*;
+use crate::generate::damaged::{damage, damage_twice, damage_with, FAULTS};
+use crate::generate::good::{good, nearly, Size};
+use crate::generate::small::Small;
+use crate::generate::wild::wild;
+use crate::generate::Foretold;
+use crate::library::{Lent, Library, Restated};
+use crate::report::Stats;
+use crate::rng::Rng;
+use crate::run::{self, Plan};
+use crate::shrink::shrink;
+use crate::text::{parse, replayed, written, Case};
+use crate::{maps, replay};
+
+/// The library that the tests are about: the linked one if there is one.
+#[cfg(library)]
+const RIGHT: &dyn Library = &crate::ffi::Linked;
+#[cfg(not(library))]
+const RIGHT: &dyn Library = &Restated;
+
+/// A way in which an answer is wrong.
+#[derive(Clone, Copy, Debug, PartialEq)]
+enum Wrong {
+    Count(usize),
+    AreaWord(usize),
+    MapWord(usize),
+    MapTail,
+    Guard,
+    Number,
+    Area,
+    Record,
+    WritesOnRefusal(usize),
+    WritesMapOnRefusal,
+    RefusesGood,
+    AcceptsBad,
+    CheckNumber,
+    CheckRecord,
+    SecondPass,
+    Lookup,
+    Adjust,
+    RangeStart,
+    RangeEnd,
+}
+
+/// Answers like the right library, but for one thing.
+struct Faulty(Wrong);
+
+/// Adds one to the first word of a slice.
+fn bump(words: &mut [u32]) {
+    if let Some(word) = words.first_mut() {
+        *word = word.wrapping_add(1);
+    }
+}
+
+impl Faulty {
+    fn spoil(&self, lent: &mut Lent, answer: &mut Answer, records: [usize; 5]) {
+        let accepted = answer.number == 0;
+        match self.0 {
+            Wrong::Count(area) if accepted => answer.counts[area] += 1,
+            Wrong::AreaWord(area) if accepted => bump(lent.areas[area].get_mut()),
+            Wrong::MapWord(area) if accepted => bump(lent.maps[area].get_mut()),
+            Wrong::MapTail if accepted => {
+                for (map, count) in lent.maps.iter_mut().zip(records) {
+                    bump(&mut map.get_mut()[count..]);
+                }
+            }
+            Wrong::Guard => lent.areas[0].break_guard(),
+            Wrong::Number if !accepted => answer.number += 1,
+            Wrong::Area if !accepted => answer.area += 1,
+            Wrong::Record if !accepted => answer.record += 1,
+            Wrong::WritesOnRefusal(area) if !accepted => bump(lent.areas[area].get_mut()),
+            Wrong::WritesMapOnRefusal if !accepted => bump(lent.maps[4].get_mut()),
+            Wrong::RefusesGood if accepted => *answer = Refusal::new(7, 4, 0).answer(),
+            Wrong::AcceptsBad => *answer = Answer::default(),
+            Wrong::SecondPass if accepted && keeps_all(answer, records) => {
+                bump(lent.areas[MENTIONS].get_mut());
+            }
+            _ => {}
+        }
+    }
+}
+
+/// Whether a pass kept every record, as a second pass does.
+fn keeps_all(answer: &Answer, records: [usize; 5]) -> bool {
+    (0..5).all(|area| answer.counts[area] as usize == records[area])
+}
+
+impl Library for Faulty {
+    fn compact(&self, lent: &mut Lent, keep: bool) -> Answer {
+        let records = std::array::from_fn(|area| lent.areas[area].get().len() / WIDTHS[area]);
+        let mut answer = RIGHT.compact(lent, keep);
+        self.spoil(lent, &mut answer, records);
+        answer
+    }
+
+    fn check(&self, lent: &Lent) -> Answer {
+        let mut answer = RIGHT.check(lent);
+        match self.0 {
+            Wrong::CheckNumber => answer.number += 1,
+            Wrong::CheckRecord => answer.record += 1,
+            _ => {}
+        }
+        answer
+    }
+
+    fn lookup(&self, map: &[u32], handle: u32) -> u32 {
+        RIGHT
+            .lookup(map, handle)
+            .wrapping_add(u32::from(self.0 == Wrong::Lookup))
+    }
+
+    fn adjust(&self, map: &[u32], handle: u32) -> [u32; 2] {
+        let mut answer = RIGHT.adjust(map, handle);
+        if self.0 == Wrong::Adjust {
+            answer[1] = answer[1].wrapping_add(1);
+        }
+        answer
+    }
+
+    fn adjust_range(&self, map: &[u32], start: u32, end: u32) -> [u32; 3] {
+        let mut answer = RIGHT.adjust_range(map, start, end);
+        match self.0 {
+            Wrong::RangeStart => answer[1] = answer[1].wrapping_add(1),
+            Wrong::RangeEnd => answer[2] = answer[2].wrapping_add(1),
+            _ => {}
+        }
+        answer
+    }
+}
+
+/// Modules of every generator, with what is foretold of them.
+fn modules(seed: u64, count: usize) -> Vec<(Flat, Foretold)> {
+    let mut rng = Rng::new(seed);
+    let mut list = Vec::new();
+    while list.len() < count {
+        list.push((good(&mut rng, Size::Tiny), Foretold::Accepted));
+        list.push((good(&mut rng, Size::Small), Foretold::Accepted));
+        list.push((nearly(&mut rng, Size::Tiny), Foretold::Nothing));
+        list.push((wild(&mut rng), Foretold::Nothing));
+        if let Some((flat, _, refusal)) = damage(&mut rng, |rng| good(rng, Size::Small)) {
+            list.push((flat, Foretold::Refused(refusal)));
+        }
+        let base = good(&mut rng, Size::Small);
+        if let Some((flat, refusal)) = damage_twice(base, &mut rng) {
+            list.push((flat, Foretold::Refused(refusal)));
+        }
+    }
+    list
+}
+
+/// What parted on the first module where something did.
+fn first_difference(library: &dyn Library) -> Option<String> {
+    let mut stats = Stats::default();
+    let list = modules(5, 400);
+    let judged = |(flat, foretold): &(Flat, Foretold)| {
+        let difference = judge(library, flat, *foretold, 9, &mut stats).err()?;
+        Some(difference.what)
+    };
+    list.iter().find_map(judged)
+}
+
+#[test]
+fn right_answers_pass() {
+    assert_eq!(first_difference(RIGHT), None);
+    assert_eq!(first_difference(&Restated), None);
+}
+
+#[test]
+fn wrong_answers_are_caught() {
+    let mut sorts = vec![
+        Wrong::MapTail,
+        Wrong::Guard,
+        Wrong::Number,
+        Wrong::Area,
+        Wrong::Record,
+        Wrong::WritesMapOnRefusal,
+        Wrong::RefusesGood,
+        Wrong::AcceptsBad,
+        Wrong::CheckNumber,
+        Wrong::CheckRecord,
+        Wrong::SecondPass,
+        Wrong::Lookup,
+        Wrong::Adjust,
+        Wrong::RangeStart,
+        Wrong::RangeEnd,
+    ];
+    sorts.extend((0..7).map(Wrong::Count));
+    sorts.extend((0..8).map(Wrong::AreaWord));
+    sorts.extend((0..8).map(Wrong::WritesOnRefusal));
+    sorts.extend((0..5).map(Wrong::MapWord));
+    for wrong in sorts {
+        let difference = first_difference(&Faulty(wrong));
+        assert!(difference.is_some(), "{wrong:?} is not caught");
+    }
+}
+
+#[test]
+fn a_run_ends_with_the_smallest_failing_module() {
+    let plan = Plan {
+        seconds: 60,
+        blocks: u64::MAX,
+        seed: 1,
+        threads: 2,
+    };
+    let library = Faulty(Wrong::Count(CONSTANTS));
+    let summary = run::run(&library, &plan);
+    let failure = summary.failure.expect("it is caught");
+    let text = run::failure_text(&library, &failure);
+    let words: Vec<&str> = (text.lines())
+        .filter_map(|line| line.strip_prefix("raw "))
+        .flat_map(|line| line.split_whitespace().skip(1))
+        .collect();
+    // Any module at all gets a wrong count.
+    assert_eq!(words.len(), 0, "{text}");
+    assert_eq!(text.matches("\nraw ").count(), 8);
+    assert_eq!(text.matches("\nroom ").count(), 5);
+}
+
+#[test]
+fn a_failing_module_shrinks() {
+    let mut rng = Rng::new(3);
+    let large = good(&mut rng, Size::Medium);
+    let has_sample = |flat: &Flat| {
+        expect_check(flat).is_none()
+            && flat.areas[EXPRESSIONS]
+                .chunks(11)
+                .any(|record| record[0] == IMAGE_SAMPLE)
+    };
+    assert!(has_sample(&large));
+    let small = shrink(&large, has_sample);
+    assert!(has_sample(&small));
+    assert!(small.records(EXPRESSIONS) <= 2, "{small:?}");
+    assert_eq!(small.words(), small.areas[EXPRESSIONS].len());
+}
+
+#[test]
+fn every_sort_of_fault_is_made_and_foretold() {
+    let mut rng = Rng::new(11);
+    for fault in &FAULTS {
+        let mut made = 0;
+        for _ in 0..4000 {
+            let base = good(&mut rng, Size::Small);
+            if let Some((flat, refusal)) = damage_with(base, &mut rng, fault) {
+                assert_eq!(expect_check(&flat), Some(refusal), "{}", fault.name);
+                assert_eq!(refusal.number, fault.number);
+                made += 1;
+            }
+            if made == 3 {
+                break;
+            }
+        }
+        assert_eq!(made, 3, "{}", fault.name);
+    }
+}
+
+#[test]
+fn a_seed_gives_the_same_modules() {
+    assert_eq!(modules(21, 100), modules(21, 100));
+    assert_ne!(modules(21, 100), modules(22, 100));
+}
+
+#[test]
+fn small_modules_are_all_different() {
+    let small = Small::new();
+    let mut seen = std::collections::HashSet::new();
+    for number in 0..20_000 {
+        let flat = small.module(number).expect("there are more");
+        let all = (small.shape(number), flat.areas);
+        assert!(seen.insert(all), "{number}");
+    }
+}
+
+#[test]
+fn good_modules_reach_the_limits() {
+    let mut rng = Rng::new(8);
+    let mut longest = [0; 8];
+    for _ in 0..12 {
+        let flat = good(&mut rng, Size::Full);
+        assert_eq!(expect_check(&flat), None);
+        for (area, most) in longest.iter_mut().enumerate() {
+            *most = flat.records(area).max(*most);
+        }
+    }
+    assert_eq!(longest, LIMITS);
+}
+
+#[test]
+fn map_entries_of_case_7() {
+    let map = [N, 0, N, 1, 2];
+    let asked = [(0, 1), (0, 2), (1, 4), (2, 5), (5, 5), (0, 6), (3, 2)];
+    let wanted = [
+        [0, 0, 0],
+        [0, 0, 1],
+        [0, 0, 2],
+        [0, 1, 3],
+        [0, 0, 0],
+        [8, N, N],
+        [8, N, N],
+    ];
+    for ((start, end), wanted) in asked.into_iter().zip(wanted) {
+        assert_eq!(maps::adjust_range(&map, start, end), wanted);
+        assert_eq!(RIGHT.adjust_range(&map, start, end), wanted);
+    }
+    let mut stats = Stats::default();
+    let mut rng = Rng::new(1);
+    for _ in 0..200 {
+        assert_eq!(entries(RIGHT, &map, &mut rng, &mut stats), Ok(()));
+    }
+}
+
+/// Document 01's cases 1, 2, 4, 5, 6, 9, 10, 11 and 12, and the line that each must give.
+const WORKED: &str = "
+1 1 0 10 0 0 N N 10 2 1 0 0 11 0 4 0 0 1 0 0 22 0 9*N 20 0 9*N 21 0 0 0 2 0 1 0 2
+2 0 0 10 0 0 N N 10 2 1 0 0 11 0 4 0 0 1 0 0 22 0 9*N 20 0 9*N 21 0 0 0 2 0 1 0 2
+41 1 0 5 0 0 N N 0 4 0 0 0 0 0 0 11 5 0 8*N 0 0 0 0 1 1 0 0 1
+42 1 0 5 0 0 N N 0 4 0 0 0 0 0 0 22 0 9*N 0 5 0 8*N 0 0 0 0 1 1 0 0 2
+51 1 0 15 0 0 N N 0 2 0 0 0 0 0 0 N N 0 0 4 0 0 1 0 0 22 7 2 8*N 0 0 9*N 0 0 0 0 3 0 1 0 2
+52 1 0 15 0 0 N N 0 2 0 0 0 0 0 0 N N 0 0 4 0 0 1 0 0 33 0 9*N 0 0 9*N 0 7 2 8*N 0 0 0 0 3 0 1 0 3
+61 1 0 5 0 2 N N 0 4 1 0 0 0 0 0 11 0 9*N 0 0 0 0 1 1 0 0 1
+62 1 0 5 0 0 N N 0 4 1 0 0 0 0 0 11 0 9*N 0 0 0 0 1 1 0 0 1
+91 1 0 0 0 0 0 22 0 9*N 0 33 0 0 0 6*N 0 0 0 0 0 0 0 0 2
+92 1 0 0 0 0 0 22 0 9*N 0 34 9*N 0 0 0 0 0 0 0 0 2
+93 1 0 0 0 0 0 22 0 9*N 0 13 9*N 0 0 0 0 0 0 0 0 2
+10 1 0 5 1 0 9 N 0 0 0 0 11 34 9*N 0 0 0 0 1 0 0 0 1
+11 1 0 0 0 0 0 0 0 0 0 0 0 0 0 0
+12 0 0 15 0 0 N N 1 0 0 N N 2 0 0 N N 3 0 0 0 0 0 0 4 0 1 0 1 3 0 0 0 0
+";
+const WORKED_LINES: &str = "\
+1 0 0 0 2 0 1 0 1 0 0
+2 0 0 0 0 0 0 0 0 0 0
+41 7 4 0 0 0 0 0 0 0 0
+42 0 0 0 0 0 0 0 0 0 0
+51 7 4 0 0 0 0 0 0 0 0
+52 0 0 0 0 0 0 0 0 0 0
+61 0 0 0 0 0 0 0 0 0 0
+62 0 0 0 1 1 0 0 1 0 0
+91 0 0 0 0 0 0 0 0 0 0
+92 4 4 1 0 0 0 0 0 0 0
+93 5 4 1 0 0 0 0 0 0 0
+10 4 4 0 0 0 0 0 0 0 0
+11 0 0 0 0 0 0 0 0 0 0
+12 0 0 0 1 0 0 0 0 0 0
+";
+
+#[test]
+fn worked_cases() {
+    let cases = parse(WORKED).expect("they are cases");
+    for library in [RIGHT, &Restated] {
+        let lines: String = cases.iter().map(|case| replayed(library, case)).collect();
+        assert_eq!(lines, WORKED_LINES);
+    }
+}
+
+#[test]
+fn cases_are_read_as_they_are_written() {
+    for (number, (flat, _)) in modules(4, 60).into_iter().enumerate() {
+        let case = Case {
+            number: number as u32,
+            keep: number % 2 == 0,
+            show: number % 3 == 0,
+            flat,
+        };
+        assert_eq!(parse(&written(&case)), Ok(vec![case]));
+    }
+}
+
+/// Whether the program `cases` has room for a case.
+fn fits(case: &Case) -> bool {
+    let records = (0..5).all(|area| case.flat.records(area) <= 64);
+    let pools = (MEMBERS..=COMPONENTS).all(|pool| case.flat.areas[pool].len() <= 64);
+    let maps = case.flat.rooms.iter().all(|room| *room <= 128);
+    records && pools && maps && case.flat.records(MENTIONS) <= 4097
+}
+
+#[test]
+fn recorded_answers_hold() {
+    let files = replay::recorded_files();
+    assert!(!files.is_empty());
+    for file in files {
+        let text = std::fs::read_to_string(&file).expect("it can be read");
+        assert!(text.len() < 8192);
+        assert!(parse(&text).expect("they are cases").iter().all(fits));
+        for library in [RIGHT, &Restated] {
+            let (cases, difference) = replay::replay(library, &file).expect("it can be read");
+            assert!(cases > 0);
+            assert_eq!(difference, None, "{}", file.display());
+        }
+    }
+}
+
+/// The recorded files are what the published Rust answers now.
+#[cfg(published)]
+#[test]
+fn recorded_answers_are_the_published_ones() {
+    let folder = std::env::temp_dir().join(format!("harness-recorded-{}", std::process::id()));
+    let (cases, files) = crate::record::record(1, &folder).expect("they can be written");
+    assert!(cases >= 300);
+    let recorded = replay::recorded_files();
+    assert_eq!(recorded.len(), files);
+    for file in recorded {
+        let name = file.file_name().expect("it has a name");
+        for end in ["stdin", "stdout"] {
+            let one = std::fs::read(file.with_extension(end)).expect("it is recorded");
+            let other = std::fs::read(folder.join(name).with_extension(end)).expect("it is new");
+            assert!(one == other, "{} differs", file.display());
+        }
+    }
+    std::fs::remove_dir_all(folder).expect("it can be taken away");
+}
+
+/// What `docs/DIFFERENCES.md` says of the Rust and no flat module can ask.
+#[cfg(published)]
+mod beside_flat_modules {
+    use crate::rust::caught;
+    use published::compact::{compact, KeepUnused};
+    use published::{
+        EntryPoint, Expression, Function, Handle, Module, Scalar, ShaderStage, Span, Type,
+        TypeInner,
+    };
+
+    fn entry(stage: ShaderStage, size: Option<Handle<Expression>>) -> EntryPoint {
+        EntryPoint {
+            stage,
+            workgroup_size_overrides: Some([size, None, None]),
+            function: Function::default(),
+            task_payload: None,
+            mesh_info: None,
+        }
+    }
+
+    #[test]
+    fn a_task_stage_keeps_the_first_u32() {
+        for (stage, kept) in [
+            (ShaderStage::Task, 1),
+            (ShaderStage::Mesh, 1),
+            (ShaderStage::Compute, 0),
+        ] {
+            let mut module = Module::default();
+            for name in ["a", "b"] {
+                let ty = Type {
+                    name: Some(String::from(name)),
+                    inner: TypeInner::Scalar(Scalar::U32),
+                };
+                module.types.insert(ty, Span::default());
+            }
+            module.entry_points.push(entry(stage, None));
+            compact(&mut module, KeepUnused::No);
+            let names: Vec<_> = module.types.iter().map(|(_, ty)| &ty.name).collect();
+            assert_eq!(names.len(), kept);
+            assert!(names.iter().all(|name| name.as_deref() == Some("a")));
+        }
+    }
+
+    #[test]
+    fn a_call_result_of_a_dropped_function_panics() {
+        for (mode, panics) in [(KeepUnused::No, true), (KeepUnused::Yes, false)] {
+            let mut module = Module::default();
+            let function = module
+                .functions
+                .append(Function::default(), Span::default());
+            let result = Expression::CallResult(function);
+            let result = module.global_expressions.append(result, Span::default());
+            let entry = entry(ShaderStage::Compute, Some(result));
+            module.entry_points.push(entry);
+            assert_eq!(caught(|| compact(&mut module, mode)).is_err(), panics);
+        }
+    }
+}
