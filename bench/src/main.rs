@@ -8,7 +8,7 @@ mod timing;
 use bench::flat::Module;
 use bench::modules::Sort;
 use report::Row;
-use std::path::PathBuf;
+use std::path::{Path, PathBuf};
 use std::process::ExitCode;
 use timing::{Pass, Spread, Turns};
 
@@ -53,36 +53,59 @@ fn size(word: &str) -> Option<usize> {
     ((64..=4096).contains(&n) && n.is_multiple_of(8)).then_some(n)
 }
 
+/// A row that is being measured.
+struct Case {
+    sort: Sort,
+    pass: Pass,
+    module: Module,
+    turns: Turns,
+    published: Vec<Spread>,
+}
+
+impl Case {
+    fn new(n: usize, sort: Sort, pass: Pass) -> Case {
+        Case {
+            sort,
+            pass,
+            module: pass.module(sort, n),
+            turns: Turns::default(),
+            published: Vec::new(),
+        }
+    }
+
+    fn add(&mut self, turns: usize, harness: Option<&Path>) -> Result<(), String> {
+        self.turns.add(self.pass, &self.module, turns);
+        if let Some(harness) = harness {
+            let published = published::time(harness, self.pass, &self.module, turns)?;
+            self.published.extend(published);
+        }
+        Ok(())
+    }
+
+    fn finish(self, n: usize) -> Row {
+        Row {
+            n,
+            sort: self.sort,
+            pass: self.pass,
+            times: self.turns.times(),
+            published: Spread::middle(&self.published),
+        }
+    }
+}
+
 /// The rows of one size, their turns spread over rounds so that a disturbance hits all rows alike.
 fn measure(options: &Options, n: usize) -> Result<Vec<Row>, String> {
     let sorts = [Sort::None, Sort::Half, Sort::All];
-    let rows = sorts.map(|sort| Pass::ALL.map(|pass| (sort, pass)));
-    let mut rows: Vec<(Sort, Pass, Module, Turns)> = (rows.into_iter().flatten())
-        .map(|(sort, pass)| (sort, pass, pass.module(sort, n), Turns::default()))
-        .collect();
-    for round in 0..ROUNDS {
-        let turns = (options.turns + round) / ROUNDS;
-        for (_, pass, module, row) in &mut rows {
-            row.add(*pass, module, turns);
+    let cases = sorts.map(|sort| Pass::ALL.map(|pass| Case::new(n, sort, pass)));
+    let mut cases: Vec<Case> = cases.into_iter().flatten().collect();
+    let rounds = ROUNDS.min(options.turns);
+    for round in 0..rounds {
+        for case in &mut cases {
+            let turns = (options.turns + round) / rounds;
+            case.add(turns, options.harness.as_deref())?;
         }
     }
-    let finish = |(sort, pass, module, turns): (Sort, Pass, Module, Turns)| {
-        Ok(Row {
-            n,
-            sort,
-            pass,
-            times: turns.times(),
-            published: published(options, pass, &module)?,
-        })
-    };
-    rows.into_iter().map(finish).collect()
-}
-
-fn published(options: &Options, pass: Pass, module: &Module) -> Result<Option<Spread>, String> {
-    match &options.harness {
-        Some(harness) => published::time(harness, pass, module, options.turns),
-        None => Ok(None),
-    }
+    Ok(cases.into_iter().map(|case| case.finish(n)).collect())
 }
 
 fn run(options: &Options) -> Result<(), String> {

@@ -89,6 +89,17 @@ impl Spread {
             high: at(3),
         }
     }
+
+    /// Of several spreads the middle median and the middle quartiles.
+    pub fn middle(spreads: &[Spread]) -> Option<Spread> {
+        let middle = |part: fn(&Spread) -> f64| Spread::of(spreads.iter().map(part).collect());
+        (!spreads.is_empty()).then(|| Spread {
+            least: f64::NAN,
+            low: middle(|spread| spread.low).median,
+            median: middle(|spread| spread.median).median,
+            high: middle(|spread| spread.high).median,
+        })
+    }
 }
 
 pub struct Times {
