@@ -1,10 +1,13 @@
 #!/usr/bin/env bash
 # The main job: builds all that is needed, and compacts the modules given, or those in examples/.
 set -euo pipefail
-cd "$(dirname "$0")"
-bash build.sh
-[ $# -gt 0 ] || set -- examples/*.txt
+root=$(cd "$(dirname "$0")" && pwd)
+bash "$root/build.sh"
+if [ $# -eq 0 ]; then
+    cd "$root"
+    set -- examples/*.txt
+fi
 for module in "$@"; do
     echo "== $module"
-    host/target/release/cadnohal compact "$module"
+    "$root/host/target/release/cadnohal" compact "$module"
 done
