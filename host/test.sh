@@ -10,6 +10,8 @@ done
 line=$("$out/case1")
 [ "$line" = '1 0 0 0 2 0 1 0 1 0 0' ] || { echo "case1 printed '$line'"; exit 1; }
 "$out/header"
+needs=$(nm -u target/staticlib/libcadnohal.a | awk '$1 == "U" { print $2 }' | sort -u)
+[ "$needs" = memset ] || { echo "the archive needs '$needs'"; exit 1; }
 cargo test --offline --quiet --manifest-path host/Cargo.toml
 for module in examples/*.txt; do
     host/target/release/cadnohal compact "$module" >"$out/once.txt"
