@@ -3,6 +3,7 @@
 use mathlib.Core.Path.{_≡_, refl, sym, ap, ap₂, _∙_}
 use mathlib.Core.List.{[]}
 use Prim.Native.Nat.{ℕ, zero, suc, _*_, _/_, _≤_, _<_}
+use native.Mathlib.Nat.{div-one}
 use native.Mathlib.Omega.{arith}
 use lib.ListN.{length}
 use Rattle.definitions.specs.Areas.{Words, Areas, Arena, types, constants, overrides, globals, expressions, areasOf, numbered, words, wordOf, word, pool, allWords, lengthOf, recordsOf, size, width, widths, mentionWidth}
@@ -71,7 +72,8 @@ module _ (s : Areas) where
     words-at = e ∙ words-of a
 
     module _ {w : ℕ} (q : w ≡ width a) where
-      start : wordsFrom ws (i * w) ≡ word s a i
+      -- its words
+      pub start : wordsFrom ws (i * w) ≡ word s a i
       unfolding word
       start = place-words ws a i q ∙ ap (λ v. wordOf v a i) words-at
 
@@ -100,3 +102,12 @@ size-le s f expressions = f .few 4 (omega arith)
 pub mentions-le : (s : Areas) → Measured s → {n : ℕ} → n ≡ length (s .mentions) / mentionWidth → n ≤ 16384
 unfolding recordsOf lengthOf allWords widths width
 mentions-le s f e = rw e (f .few 7 (omega arith))
+
+-- and of the pools
+pub room-le : (s : Areas) → Measured s → (a : Arena) → length (pool s a) ≤ 16384
+unfolding pool recordsOf lengthOf allWords widths
+room-le s f types = rw div-one at (f .few 5 (omega arith))
+room-le s f constants = omega arith
+room-le s f overrides = omega arith
+room-le s f globals = omega arith
+room-le s f expressions = rw div-one at (f .few 6 (omega arith))

@@ -7,4 +7,5 @@ pub mod Numbers
 pub mod Records
 pub mod Carries
 pub mod Walk
+pub mod AtOnce
 pub mod Once

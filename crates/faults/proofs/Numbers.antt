@@ -19,7 +19,7 @@ use Rattle.faults.specs.declared.Fault.{Fault}
 use Rattle.faults.specs.declared.Verdict as code
 use Rattle.faults.specs.declared.Verdict.the-variants.{Accepted, Refused}
 use Rattle.faults.specs.Faults.{verdictOf, areaOk, areasAt, inTurn, scanArea, okAt, ok4, ok6, ownerOf, looksAt, placesIn, Measured}
-use Rattle.faults.proofs.Scans.{first-on, first-stop, turn-open, turn-end, none, also, skipped, last}
+use Rattle.faults.proofs.Scans.{first-on, first-stop, turn-open, turn-end, turns-accepted, none, also, skipped, last}
 
 -- the lengths of the eight areas
 abbrev pub lengthsOf : Areas → List ℕ
@@ -116,6 +116,10 @@ module _ (s : Areas) (maps : List ℕ) where
     -- none is left
     pub ends : 8 ≤ n → accepted ≡ check s maps
     ends l = sym (turn-end stage n 8 l) ∙ h .left
+
+    -- none of those that are left refuses
+    pub rest-accept : 4 ≤ n → n < 8 → ((k : ℕ) → 4 ≤ k → k < 8 → inTurn (scanArea s k) 0 8 ≡ accepted) → accepted ≡ check s maps
+    rest-accept l o f = sym (turns-accepted stage n (8 - n) (λ k a b. sym (by-places k (omega arith) (sym (f k (omega arith) (omega arith)))))) ∙ h .left
 
     -- what numbers 1 and 2 leave
     pub measured : 4 ≤ n → Measured s

@@ -3,7 +3,8 @@
 use mathlib.Core.Path.{_≡_, refl, sym, ap, _∙_}
 use mathlib.Core.Bool.{Bool, true, false, cond}
 use mathlib.Core.List.{List, [], _∷_}
-use Prim.Native.Nat.{ℕ, suc, _+_, _-_, _≤_, _<_}
+use Prim.Native.Nat.{ℕ, zero, suc, _+_, _-_, _≤_, _<_}
+use native.Mathlib.Nat.{le-refl}
 use native.Mathlib.Numerals.{add-one}
 use native.Mathlib.Omega.{arith}
 use Rattle.definitions.specs.Refusals.{Verdict, accepted, refused, firstOf, scan}
@@ -36,6 +37,12 @@ module _ (ok : ℕ → Bool) (bad : ℕ → Verdict) (i n : ℕ) where
   unfolding scan
   scan-end l = let q : n - i ≡ 0 = omega arith in rw q
 
+-- a scan of good places
+pub all-accepted : (ok : ℕ → Bool) (bad : ℕ → Verdict) (i n : ℕ) → ((j : ℕ) → i ≤ j → j < i + n → ok j ≡ true) → scan ok bad i n ≡ accepted
+unfolding scan
+all-accepted ok bad i zero f = refl
+all-accepted ok bad i (suc n) f = rw (f i (le-refl i) (omega arith)) (all-accepted ok bad (suc i) n (λ j l h. f j (omega arith) (omega arith)))
+
 -- ---- verdicts in turn
 
 -- a verdict that accepts leaves it to the next
@@ -63,6 +70,12 @@ turn-open f i n l =
 pub turn-end : (f : ℕ → Verdict) (i n : ℕ) → n ≤ i → inTurn f i (n - i) ≡ accepted
 unfolding inTurn
 turn-end f i n l = let q : n - i ≡ 0 = omega arith in rw q
+
+-- all accept
+pub turns-accepted : (f : ℕ → Verdict) (i n : ℕ) → ((j : ℕ) → i ≤ j → j < i + n → f j ≡ accepted) → inTurn f i n ≡ accepted
+unfolding inTurn
+turns-accepted f i zero h = refl
+turns-accepted f i (suc n) h = first-on _ (h i (le-refl i) (omega arith)) ∙ turns-accepted f (suc i) n (λ j l k. h j (omega arith) (omega arith))
 
 -- ---- a list of verdicts as verdicts in turn
 

@@ -17,6 +17,8 @@ use Rattle.faults.specs.declared.Verdict.the-variants.{Accepted, Refused
 use Rattle.faults.specs.declared.places.Carried.{Carried}
 use Rattle.rules.specs.declared.Sizes.{Sizes}
 use Rattle.rules.specs.declared.Bounds.{Bounds}
+use Rattle.rules.specs.declared.Limits.{Limits}
+use Rattle.rules.specs.declared.Run.{Run}
 use Rattle.rules.specs.Rules.{sizeIn, sizesOf, leading}
 
 -- the verdict of document 01 that the code's is: number, area, record
@@ -90,6 +92,27 @@ boundsAt area i before n =
       expressions = cond (eqb area 0) 0 i;
       «every_expression» = eqb area 0;
     }
+
+-- ---- numbers 4 to 7 at once
+
+-- the limits of record i of an area, enough for all four numbers; `before` types have dep below expression i
+unfoldable pub limitsAt : ℕ → ℕ → ℕ → Sizes → Run → Limits
+limitsAt area i before z run =
+    record {
+      types = cond (eqb area 0) i (cond (eqb area 4) before (z .types));
+      constants = z .constants;
+      overrides = z .overrides;
+      expressions = cond (eqb area 4) i (z .expressions);
+      run = run;
+    }
+
+-- every place of an area is good under each of the four
+abbrev pub Passed : Areas → ℕ → Type 0
+Passed s a = (n i : ℕ) → 4 ≤ n → n < 8 → i < placesAt s n a → okAt s n a i ≡ true
+
+-- the runs of an arena use up its pool
+abbrev pub Used : Areas → areas.Arena → Type 0
+Used s a = runsBefore s a (size s a) ≡ length (pool s a)
 
 -- ---- what is carried from record to record
 

@@ -1,5 +1,6 @@
 // Refusals 1 to 7: one verdict over eight areas and five maps, which are only read.
 mod areas;
+mod at_once;
 mod places;
 
 ghost use mathlib.Core.Path.{_≡_};
@@ -21,7 +22,7 @@ pub enum Verdict {
     Refused(Fault),
 }
 
-// The verdict on eight areas and five maps of any words: numbers 1 to 7 in turn, the first fault wins.
+// The verdict on eight areas and five maps of any words: numbers 1 to 7 in turn, the first fault wins. A good module is told by one walk over it.
 pub fn check<'a>(
     types: &'a [u32],
     constants: &'a [u32],
@@ -65,6 +66,18 @@ pub fn check<'a>(
             return Verdict::Refused(f);
         }
         number += 1;
+    }
+    if at_once::passes(
+        types,
+        constants,
+        overrides,
+        globals,
+        expressions,
+        members,
+        components,
+        mentions,
+    ) {
+        return Verdict::Accepted;
     }
     while number < 8 {
         let v = places::first(

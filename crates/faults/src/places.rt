@@ -30,7 +30,7 @@ enum Place {
 }
 
 // The words of an arena.
-fn arena_words<'a>(
+pub fn arena_words<'a>(
     area: u32,
     types: &'a [u32],
     constants: &'a [u32],
@@ -50,7 +50,7 @@ fn arena_words<'a>(
 }
 
 // The pool that an arena's runs lie in; empty for an arena without runs.
-fn pool_words<'a>(area: u32, members: &'a [u32], components: &'a [u32]) -> &'a [u32]
+pub fn pool_words<'a>(area: u32, members: &'a [u32], components: &'a [u32]) -> &'a [u32]
     ensures { λ r. ⌜ now r ≡ pool (areasOf [] [] [] [] [] (now (members .entry)) (now (components .entry)) []) (numbered area) ⌝ }
 {
     match area {
@@ -61,7 +61,7 @@ fn pool_words<'a>(area: u32, members: &'a [u32], components: &'a [u32]) -> &'a [
 }
 
 // How many records each arena has.
-fn sizes<'a>(
+pub fn sizes<'a>(
     types: &'a [u32],
     constants: &'a [u32],
     overrides: &'a [u32],
@@ -84,7 +84,7 @@ fn sizes<'a>(
 }
 
 // How many records the arena of an area has.
-fn own_size(area: u32, z: Sizes) -> u32
+pub fn own_size(area: u32, z: Sizes) -> u32
     ensures { λ r. ⌜ r ≡ sizeIn z (numbered area) ⌝ }
 {
     match area {
@@ -139,7 +139,7 @@ pub struct Carried {
 const MOST: usize = 4294967296;
 
 // A sum, as far as a word can equal it.
-fn capped(a: usize, b: u32) -> usize
+pub fn capped(a: usize, b: u32) -> usize
     requires { ⌜ a ≤ most ⌝ }
     ensures { λ r. ⌜ r ≡ min (a + b) most ⌝ }
 {

@@ -20,7 +20,8 @@ use Rattle.definitions.proofs.Tandem.{past-mono}
 use Rattle.rules.specs.declared.Run.{Run}
 use Rattle.rules.specs.Rules.{sizeIn, sizesOf, shapedBy, heldBy, leading}
 
-size-in : (s : Areas) (a : Arena) → size s a ≡ sizeIn (sizesOf s) a
+-- the sizes of a module, arena by arena
+pub size-in : (s : Areas) (a : Arena) → size s a ≡ sizeIn (sizesOf s) a
 size-in s types = refl
 size-in s constants = refl
 size-in s overrides = refl

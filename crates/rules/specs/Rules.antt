@@ -1,10 +1,10 @@
 -- What the contracts of this crate cite beside the definitions of document 01: numbers 4, 6 and 7 of one record.
 -- Assumes nothing.
-use mathlib.Core.Bool.{Bool, true, _&&_, _||_, cond}
+use mathlib.Core.Bool.{Bool, true, false, _&&_, _||_, cond}
 use Prim.Native.Nat.{ℕ, zero, suc, _+_}
 use lib.Dec.{eqb, ltb, leb}
 use Rattle.definitions.specs.Lists.{all}
-use Rattle.definitions.specs.Areas.{Words, N, Arena, Areas, Elem, at, types, constants, overrides, globals, expressions, size}
+use Rattle.definitions.specs.Areas.{Words, N, Arena, Areas, Elem, at, types, constants, overrides, globals, expressions, size, wordOf}
 use Rattle.definitions.specs.Slots.{Slot, unused, free, below, must, may, start, count}
 use Rattle.definitions.specs.References.{namedBy}
 use Rattle.definitions.specs.Order.{sizedBy, withBehind}
@@ -12,6 +12,7 @@ use Rattle.slots.specs.Part.{part}
 use Rattle.rules.specs.declared.Sizes.{Sizes}
 use Rattle.rules.specs.declared.Bounds.{Bounds}
 use Rattle.rules.specs.declared.Run.{Run}
+use Rattle.rules.specs.declared.Limits.{Limits}
 use Rattle.rules.specs.declared.Rule.{Rule}
 use Rattle.rules.specs.declared.Rule.the-variants.{Shaped, Held, Ordered}
 
@@ -67,6 +68,30 @@ unfoldable pub asked : Words → Words → Words → Rule → Slot → ℕ → B
 asked c o g (Shaped r) l w = shapedBy r l w
 asked c o g (Held z) l w = heldBy (sizeIn z) l w
 asked c o g (Ordered b) l w = all (within b) (withBehind (part c o g) (namedBy l w))
+
+-- numbers 4 to 7 at once: does an element, with all that stands behind it, lie within the limits ? No slot names a global
+unfoldable pub fitBy : Words → Words → Limits → Arena → ℕ → Bool
+fitBy c o l types h = ltb h (l .types)
+fitBy c o l constants h = ltb h (l .constants) && (ltb (wordOf c constants h 1) (l .types) && ltb (wordOf c constants h 2) (l .expressions))
+fitBy c o l overrides h =
+    ltb h (l .overrides)
+    && (ltb (wordOf o overrides h 1) (l .types) && (eqb (wordOf o overrides h 2) N || ltb (wordOf o overrides h 2) (l .expressions)))
+fitBy c o l globals h = false
+fitBy c o l expressions h = ltb h (l .expressions)
+
+-- a word that passes is good under each of the numbers; the only kinds with free slots before the tag are those of number 5
+unfoldable pub goodBy : Words → Words → Limits → Slot → ℕ → Bool
+goodBy c o l unused w = eqb w N
+goodBy c o l free w = false
+goodBy c o l (below n) w = ltb w n
+goodBy c o l (must a) w = fitBy c o l a w
+goodBy c o l (may a) w = eqb w N || fitBy c o l a w
+goodBy c o l start w = eqb w (l .run .sum) && leb (w + l .run .span) (l .run .room)
+goodBy c o l count w = true
+
+-- the word of an unused slot
+unfoldable pub empty : Slot → ℕ → Bool
+empty l w = eqb w N
 
 -- the types up to the first that is sized by an override with an init not below e: n of them at most, from t on
 unfoldable pub leading : Areas → ℕ → ℕ → ℕ → ℕ

@@ -6,15 +6,16 @@ ghost use Prim.Native.Nat.{ℕ, _-_};
 ghost use lib.Dec.{eqb, ltb};
 ghost use Rattle.definitions.specs.Areas.{Words, N, areasOf, numbered, width, wordOf, at, types, expressions};
 ghost use Rattle.definitions.specs.Lists.{all, any, total};
-ghost use Rattle.definitions.specs.Slots.{unused, slots};
+ghost use Rattle.definitions.specs.Slots.{unused, body, slots};
 ghost use Rattle.definitions.specs.References.{namedBy};
 ghost use Rattle.definitions.specs.Order.{withBehind, sizedBy};
 ghost use Rattle.definitions.specs.Refusals.{every};
 ghost use Rattle.arena.specs.Elements.{elementOf};
-ghost use Rattle.slots.specs.Codes.{unpacked, wordsFrom, arenaOf, slotOf, spanIn};
+ghost use Rattle.slots.specs.Codes.{decoded, unpacked, wordsFrom, arenaOf, slotOf, spanIn};
 ghost use Rattle.slots.specs.Part.{part};
-ghost use Rattle.rules.specs.Rules.{sizeIn, shapedBy, heldBy, within, asked, leading};
+ghost use Rattle.rules.specs.Rules.{sizeIn, shapedBy, heldBy, within, asked, empty, fitBy, goodBy, leading};
 use arena::Constant;
+use arena::ConstantHandle;
 use arena::Element;
 use arena::ExpressionHandle;
 use arena::Global;
@@ -48,6 +49,15 @@ pub struct Bounds {
     pub every_type: bool,
     pub expressions: u32,
     pub every_expression: bool,
+}
+
+// What is enough for numbers 4 to 7 at once: below which type and expression lies all that a word names and that stands behind it, how many constants and overrides there are, and the record's run.
+pub struct Limits {
+    pub types: u32,
+    pub constants: u32,
+    pub overrides: u32,
+    pub expressions: u32,
+    pub run: Run,
 }
 
 // What is asked of a record's words: under number 4, 6, 7.
@@ -244,6 +254,120 @@ pub fn record_keeps(
         constants,
         overrides,
         globals,
+    )
+}
+
+// Does a constant, with its type and its init, lie within the limits ?
+fn constant_fits(l: Limits, h: ConstantHandle, constants: &[u32]) -> bool
+    ensures { λ r. ⌜ r ≡ fitBy (now (constants .entry)) [] l (numbered 1) (h .0) ⌝ }
+{
+    if l.constants <= h.0 {
+        return false;
+    }
+    if l.types <= Constant::ty(constants, h).0 {
+        return false;
+    }
+    Constant::init(constants, h).0 < l.expressions
+}
+
+// And an override, which may have no init ?
+fn override_fits(l: Limits, h: OverrideHandle, overrides: &[u32]) -> bool
+    ensures { λ r. ⌜ r ≡ fitBy [] (now (overrides .entry)) l (numbered 2) (h .0) ⌝ }
+{
+    if l.overrides <= h.0 {
+        return false;
+    }
+    if l.types <= Override::ty(overrides, h).0 {
+        return false;
+    }
+    let init = Override::init(overrides, h).0;
+    if init == N {
+        return true;
+    }
+    init < l.expressions
+}
+
+// Is a word good under numbers 4 to 7 at once, by its slot's code ?
+fn slot_good(l: Limits, code: u64, w: u32, constants: &[u32], overrides: &[u32]) -> bool
+    ensures { λ r. ⌜ r ≡ goodBy (now (constants .entry)) (now (overrides .entry)) l (decoded code) w ⌝ }
+{
+    match code {
+        1 => false,
+        2 => w < l.types,
+        3 => constant_fits(l, ConstantHandle(w), constants),
+        4 => override_fits(l, OverrideHandle(w), overrides),
+        5 => w < l.expressions,
+        6 => w == N || w < l.expressions,
+        7 => w as usize == l.run.sum && w as usize + l.run.span as usize <= l.run.room,
+        8 => true,
+        9 => w < 2,
+        10 => w < 4,
+        11 => w < 5,
+        12 => w < 34,
+        _ => w == N,
+    }
+}
+
+// Is each word from k on, up to n, of the record that starts at a place N ?
+fn blank(ws: &[u32], at: usize, k: usize, n: usize) -> bool
+    ensures { λ r. ⌜ r ≡ every empty (wordsFrom (now (ws .entry)) at) k (unpacked 0 (n - k)) ⌝ }
+{
+    let mut i = k;
+    while i < n {
+        if slots::word(ws, at, i) != N {
+            return false;
+        }
+        i += 1;
+    }
+    true
+}
+
+// Are the first n words of the record that starts at a place good ?
+fn slots_good(
+    l: Limits,
+    ws: &[u32],
+    at: usize,
+    shape: u64,
+    n: usize,
+    constants: &[u32],
+    overrides: &[u32],
+) -> bool
+    ensures { λ r. ⌜ r ≡ every (goodBy (now (constants .entry)) (now (overrides .entry)) l) (wordsFrom (now (ws .entry)) at) 0 (unpacked shape n) ⌝ }
+{
+    let mut rest = shape;
+    let mut k = 0;
+    while k < n {
+        if rest == 0 {
+            return blank(ws, at, k, n);
+        }
+        if !slot_good(l, rest % 16, slots::word(ws, at, k), constants, overrides) {
+            return false;
+        }
+        rest = rest / 16;
+        k += 1;
+    }
+    true
+}
+
+// Are all words of the record that starts at a place good, but its tag ?
+pub fn record_good(
+    l: Limits,
+    area: u32,
+    ws: &[u32],
+    at: usize,
+    constants: &[u32],
+    overrides: &[u32],
+) -> bool
+    ensures { λ r. ⌜ r ≡ every (goodBy (now (constants .entry)) (now (overrides .entry)) l) (wordsFrom (now (ws .entry)) at) 0 (body (numbered area) (wordsFrom (now (ws .entry)) at)) ⌝ }
+{
+    slots_good(
+        l,
+        ws,
+        at,
+        slots::shape(area, ws, at),
+        slots::arena_width(area) - 1,
+        constants,
+        overrides,
     )
 }
 

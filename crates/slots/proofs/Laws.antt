@@ -66,7 +66,7 @@ module _ (p : Slot → ℕ → Bool) (f : ℕ → ℕ) where
   every-fill u (suc n) (x ∷ l) k h = ap (λ b. p x (f k) && b) (every-fill u n l (suc k) (le-of-suc-le-suc h))
 
   -- and of no tag, where every free slot passes
-  every-tag : ((w : ℕ) → p free w ≡ true) → (l : List Slot) (k : ℕ) → every p f k (l ++ tag) ≡ every p f k l
+  pub every-tag : ((w : ℕ) → p free w ≡ true) → (l : List Slot) (k : ℕ) → every p f k (l ++ tag) ≡ every p f k l
   unfolding every
   every-tag t [] k = rw (t (f k))
   every-tag t (x ∷ l) k = ap (λ b. p x (f k) && b) (every-tag t l (suc k))

@@ -6,7 +6,7 @@ use native.Mathlib.Omega.{arith}
 use lib.ListN.{length}
 use borrow.Author.Needs.{needs}
 use Rattle.definitions.specs.Areas.{Areas, areasOf}
-use Rattle.faults.proofs.Numbers.{Reached, from-one, by-lengths, by-places, goes-on, stops, ends, measured}
+use Rattle.faults.proofs.Numbers.{Reached, from-one, by-lengths, by-places, goes-on, stops, ends, rest-accept, measured}
 use Rattle.faults.proofs.check.Statement.{statement}
 use Rattle.faults.proofs.check.Tie as tie
 
@@ -68,21 +68,30 @@ loop-again c =
     let l = c .before .before .before .before .before .before .loop in
     (omega arith, omega arith, goes-on (Given d) (Maps d) (l .number) (l .inv .2) (omega arith) (by-lengths (Given d) (Maps d) (l .number) (omega arith) (c .before .before .first .ensures)) (c .enum-told .given .1))
 
+passes-requires : tie.Need-passes-requires Inv-loop μ-loop Inv-loop2 μ-loop2
+passes-requires c κs = let d = c .before .before .before .before .before .before .before .before .before .before .before .before .before .before .before in measured (Given d) (Maps d) (c .before .loop .number) (c .before .loop .inv .2) (c .loop-test .left)
+
+returns-2 : tie.Need-returns-2 Inv-loop μ-loop Inv-loop2 μ-loop2
+returns-2 c =
+    let d = c .before .before .before .before .before .before .before .before .before .before .before .before .before .before .before .before .before in
+    let l = c .before .before .before .loop in
+    rest-accept (Given d) (Maps d) (l .number) (l .inv .2) (c .before .before .loop-test .left) (omega arith) (c .before .passes .ensures (c .if1 .taken))
+
 loop2-holds : tie.Need-loop2-holds Inv-loop μ-loop Inv-loop2 μ-loop2
-loop2-holds c = (omega arith, omega arith, c .before .loop .inv .2)
+loop2-holds c = (omega arith, omega arith, c .before .before .before .loop .inv .2)
 
 first-requires-2 : tie.Need-first-requires-2 Inv-loop μ-loop Inv-loop2 μ-loop2
 first-requires-2 c κs =
-    let d = c .before .before .before .before .before .before .before .before .before .before .before .before .before .before .before .before .before in
+    let d = c .before .before .before .before .before .before .before .before .before .before .before .before .before .before .before .before .before .before .before in
     let l = c .before .loop2 in
     ((l .inv .0, omega arith), measured (Given d) (Maps d) (l .number) (l .inv .2) (l .inv .0))
 
 enum-known-v-2 : tie.Need-enum-known-v-2 Inv-loop μ-loop Inv-loop2 μ-loop2
 enum-known-v-2 c = search needs
 
-returns-2 : tie.Need-returns-2 Inv-loop μ-loop Inv-loop2 μ-loop2
-returns-2 c =
-    let d = c .before .before .before .before .before .before .before .before .before .before .before .before .before .before .before .before .before .before .before .before .before in
+returns-3 : tie.Need-returns-3 Inv-loop μ-loop Inv-loop2 μ-loop2
+returns-3 c =
+    let d = c .before .before .before .before .before .before .before .before .before .before .before .before .before .before .before .before .before .before .before .before .before .before .before in
     let l = c .before .before .before .before .before .loop2 in
     stops (Given d) (Maps d) (l .number) (l .inv .2) (omega arith) (by-places (Given d) (Maps d) (l .number) (l .inv .0) (c .before .before .before .first2 .ensures)) (c .before .v2 .given .1)
 
@@ -97,12 +106,12 @@ loop2-less c = omega arith
 
 loop2-again : tie.Need-loop2-again Inv-loop μ-loop Inv-loop2 μ-loop2
 loop2-again c =
-    let d = c .before .before .before .before .before .before .before .before .before .before .before .before .before .before .before .before .before .before .before .before in
+    let d = c .before .before .before .before .before .before .before .before .before .before .before .before .before .before .before .before .before .before .before .before .before .before in
     let l = c .before .before .before .before .loop2 in
     (omega arith, omega arith, goes-on (Given d) (Maps d) (l .number) (l .inv .2) (omega arith) (by-places (Given d) (Maps d) (l .number) (l .inv .0) (c .before .before .first2 .ensures)) (c .enum-told2 .given .1))
 
-returns-3 : tie.Need-returns-3 Inv-loop μ-loop Inv-loop2 μ-loop2
-returns-3 c = let d = c .before .before .before .before .before .before .before .before .before .before .before .before .before .before .before .before .before in ends (Given d) (Maps d) (c .before .loop2 .number) (c .before .loop2 .inv .2) (c .loop2-test .left)
+returns-4 : tie.Need-returns-4 Inv-loop μ-loop Inv-loop2 μ-loop2
+returns-4 c = let d = c .before .before .before .before .before .before .before .before .before .before .before .before .before .before .before .before .before .before .before in ends (Given d) (Maps d) (c .before .loop2 .number) (c .before .loop2 .inv .2) (c .loop2-test .left)
 
 pub check-spec : {M : Type 1} → statement M
 check-spec =
@@ -120,12 +129,14 @@ check-spec =
     add-number
     loop-less
     loop-again
+    passes-requires
+    returns-2
     loop2-holds
     first-requires-2
     enum-known-v-2
-    returns-2
+    returns-3
     enum-told-2
     add-number-2
     loop2-less
     loop2-again
-    returns-3)
+    returns-4)

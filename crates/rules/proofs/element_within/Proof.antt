@@ -1,80 +1,14 @@
 -- `rules::element_within` meets its contract: each arm is given which element it is, and asks of all that stands behind it.
 -- Assumes nothing.
-use mathlib.Core.Path.{_≡_, refl, sym, ap, _∙_}
-use mathlib.Core.Bool.{Bool, true, false, _&&_, _||_, cond, and-true}
-use mathlib.Core.List.{[], _∷_, _++_}
-use Prim.Native.Nat.{ℕ}
-use lib.Dec.{eqb}
+use mathlib.Core.Path.{_∙_}
+use mathlib.Core.List.{[], _∷_}
 use borrow.Author.Needs.{needs}
-use Rattle.definitions.specs.Lists.{all}
-use Rattle.definitions.specs.Areas.{N, Areas, Elem, at, types, constants, overrides, globals, expressions, wordOf, word, words}
-use Rattle.definitions.specs.Slots.{slots, body, layout}
-use Rattle.definitions.specs.References.{hasRun, span, run, namedBy, namedFrom, references}
-use Rattle.definitions.specs.Order.{behind, withBehind}
 use Rattle.arena.specs.Elements.{elementOf}
-use Rattle.rules.specs.declared.Bounds.{Bounds}
 use Rattle.slots.specs.Part.{part}
-use Rattle.rules.specs.Rules.{within}
-use Rattle.rules.proofs.Arms.{told, and-first, and-second, fits}
+use Rattle.rules.proofs.Arms.{told, fits}
+use Rattle.rules.proofs.Behind.{first, second, of-type, of-expression, of-constant, of-override, of-global}
 use Rattle.rules.proofs.element_within.Statement.{statement}
 use Rattle.rules.proofs.element_within.Tie as tie
-
--- opens what stands behind an element
-opened : ℕ
-unfolding all withBehind behind references namedFrom namedBy layout slots body word words run span hasRun within
-opened = 0
-
--- an init that may be there is asked about unless it is N
-all-may : (p : Elem → Bool) (t : Bool) (x : Elem) → all p (((cond t [] (x ∷ []) ++ []) ++ []) ++ []) ≡ t || p x
-unfolding all
-all-may p true x = refl
-all-may p false x = and-true (p x)
-
--- l asks f of the word u, and then g of the word v
-record Both (f : ℕ → Bool) (u : ℕ) (g : ℕ → Bool) (v : ℕ) (l : Bool) : Type 0 where
-  says : l ≡ f u && g v
-
--- an arm that asks of the type and then of the init, each as it was read
-module _ {f : ℕ → Bool} {u : ℕ} {g : ℕ → Bool} {v : ℕ} {l : Bool} (both : Both f u g v l) where
-  first : {t : Bool} {j : ℕ} → t ≡ f j → j ≡ u → t ≡ false → t ≡ l
-  first p x q = let e = p ∙ ap f x in e ∙ and-first (f u) (g v) (sym e ∙ q) ∙ sym (both .says)
-
-  second : {t r : Bool} {j k : ℕ} → t ≡ f j → j ≡ u → t ≡ true → r ≡ g k → k ≡ v → r ≡ l
-  second p x q e y = e ∙ ap g y ∙ and-second (f u) (g v) (sym (p ∙ ap f x) ∙ q) ∙ sym (both .says)
-
-module _ (b : Bounds) (s : Areas) where
-  abbrev ofType : ℕ → Bool
-  ofType t = within b (at types t)
-
-  abbrev ofInit : ℕ → Bool
-  ofInit e = within b (at expressions e)
-
-  abbrev ofMaybe : ℕ → Bool
-  ofMaybe e = eqb e N || within b (at expressions e)
-
-  of-type : (h : ℕ) → ofType h ≡ fits b s (at types h ∷ [])
-  unfolding opened
-  of-type h = sym (and-true (ofType h))
-
-  of-expression : (h : ℕ) → ofInit h ≡ fits b s (at expressions h ∷ [])
-  unfolding opened
-  of-expression h = sym (and-true (ofInit h))
-
-  of-constant : (h : ℕ) → Both ofType (wordOf (s .constants) constants h 1) ofInit (wordOf (s .constants) constants h 2) (fits b s (at constants h ∷ []))
-  unfolding opened
-  of-constant h = record { says = ap (λ x. ofType (wordOf (s .constants) constants h 1) && x) (and-true _) }
-
-  of-override : (h : ℕ) → Both ofType (wordOf (s .overrides) overrides h 1) ofMaybe (wordOf (s .overrides) overrides h 2) (fits b s (at overrides h ∷ []))
-  unfolding opened
-  of-override h =
-      let e = wordOf (s .overrides) overrides h 2 in
-      record { says = ap (λ x. ofType (wordOf (s .overrides) overrides h 1) && x) (all-may (within b) (eqb e N) (at expressions e)) }
-
-  of-global : (h : ℕ) → Both ofType (wordOf (s .globals) globals h 0) ofMaybe (wordOf (s .globals) globals h 1) (fits b s (at globals h ∷ []))
-  unfolding opened
-  of-global h =
-      let e = wordOf (s .globals) globals h 1 in
-      record { says = ap (λ x. ofType (wordOf (s .globals) globals h 0) && x) (all-may (within b) (eqb e N) (at expressions e)) }
 
 enum-known-x : tie.Need-enum-known-x
 enum-known-x c = search needs

@@ -1,32 +1,19 @@
 -- `rules::record_keeps` meets its contract: what the rule asks of all words it asks of the slots that the shape names.
 -- Assumes nothing.
-use mathlib.Core.Path.{_≡_, refl, sym, ap, _∙_}
-use mathlib.Core.Bool.{true}
-use Prim.Native.Nat.{ℕ}
+use mathlib.Core.Path.{sym, ap, _∙_}
 use native.Mathlib.Omega.{arith}
 use borrow.Author.Needs.{needs}
-use Rattle.definitions.specs.Lists.{all}
-use Rattle.definitions.specs.Areas.{Words, numbered}
-use Rattle.definitions.specs.Slots.{free, slots}
-use Rattle.definitions.specs.References.{namedBy}
-use Rattle.definitions.specs.Order.{withBehind}
+use Rattle.definitions.specs.Areas.{numbered}
+use Rattle.definitions.specs.Slots.{slots}
 use Rattle.definitions.specs.Refusals.{every}
 use Rattle.definitions.proofs.Reading.{width-pos}
 use Rattle.slots.specs.Codes.{wordsFrom}
 use Rattle.slots.proofs.Laws.{every-body}
-use Rattle.rules.specs.declared.Rule.{Rule}
-use Rattle.rules.specs.declared.Rule.the-variants.{Shaped, Held, Ordered}
-use Rattle.rules.specs.Rules.{shapedBy, heldBy, asked}
+use Rattle.rules.specs.Rules.{asked}
+use Rattle.rules.proofs.Every.{tag-kept}
 use Rattle.rules.proofs.Places.{place-fits, place-words}
 use Rattle.rules.proofs.record_keeps.Statement.{statement}
 use Rattle.rules.proofs.record_keeps.Tie as tie
-
--- no rule asks anything of a tag
-tag-kept : (c o g : Words) (rule : Rule) (w : ℕ) → asked c o g rule free w ≡ true
-unfolding asked shapedBy heldBy namedBy withBehind all
-tag-kept c o g (Shaped r) w = refl
-tag-kept c o g (Held z) w = refl
-tag-kept c o g (Ordered b) w = refl
 
 arena-width-requires : tie.Need-arena-width-requires
 arena-width-requires c κs = search needs

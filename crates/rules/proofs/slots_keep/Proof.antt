@@ -11,27 +11,10 @@ use borrow.Author.Tests.{not-true, not-false}
 use Rattle.definitions.specs.Slots.{Slot, unused}
 use Rattle.definitions.specs.Refusals.{every}
 use Rattle.slots.specs.Codes.{decoded, unpacked, wordsFrom}
-use Rattle.slots.proofs.Laws.{every-none}
 use Rattle.rules.specs.Rules.{asked}
+use Rattle.rules.proofs.Every.{turn, none-left, done}
 use Rattle.rules.proofs.slots_keep.Statement.{statement}
 use Rattle.rules.proofs.slots_keep.Tie as tie
-
-module _ (p : Slot → ℕ → Bool) (f : ℕ → ℕ) (rest k n : ℕ) where
-  -- of a word that answers b
-  turn : {r b : Bool} {l : Slot} {w : ℕ} → k < n → l ≡ decoded (rest % 16) → w ≡ f k → r ≡ p l w → r ≡ b
-      → b && every p f (k + 1) (unpacked (rest / 16) (n - (k + 1))) ≡ every p f k (unpacked rest (n - k))
-  unfolding every unpacked
-  turn h x y e q =
-      let m : n - k ≡ suc (n - (k + 1)) = omega arith in
-      rw (m, ← add-one k) (ap (λ b. b && every p f (k + 1) (unpacked (rest / 16) (n - (k + 1)))) (sym q ∙ e ∙ ap₂ p x y))
-
-  -- no named slot is left
-  none-left : ((w : ℕ) → p unused w ≡ true) → rest ≡ 0 → true ≡ every p f k (unpacked rest (n - k))
-  none-left u e = sym (ap (λ r. every p f k (unpacked r (n - k))) e ∙ every-none p f u (n - k) k)
-
-  done : n ≤ k → true ≡ every p f k (unpacked rest (n - k))
-  unfolding every unpacked
-  done h = let m : n - k ≡ 0 = omega arith in rw m
 
 abbrev Inv-loop : tie.InvT-loop
 Inv-loop rule ws at shape n constants overrides globals rest₀ k₀ rest k =

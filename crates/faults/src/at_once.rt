@@ -1,0 +1,206 @@
+// Numbers 4 to 7 of a good module in one walk: each record is read once. Where the walk fails, the numbers in turn say why.
+ghost use mathlib.Core.Path.{_≡_};
+ghost use mathlib.Core.Bool.{true, _&&_, cond};
+ghost use mathlib.Core.List.{[]};
+ghost use Prim.Native.Nat.{ℕ, _-_, _≤_, _<_};
+ghost use lib.Dec.{eqb, ltb};
+ghost use Rattle.definitions.specs.Lists.{all};
+ghost use Rattle.definitions.specs.Areas.{areasOf, numbered};
+ghost use Rattle.definitions.specs.Slots.{body};
+ghost use Rattle.definitions.specs.Refusals.{accepted, every};
+ghost use Rattle.slots.specs.Codes.{wordsFrom, spanIn, runIn};
+ghost use Rattle.rules.specs.Rules.{sizesOf, goodBy, leading};
+ghost use Rattle.faults.specs.Faults.{Measured, limitsAt, Passed, Used, inTurn, scanArea};
+use crate::places;
+use arena::Mention;
+use rules::Limits;
+use rules::Run;
+use rules::Sizes;
+
+// The limits of record i of an area; `before` types have dep below expression i.
+fn limits(area: u32, i: u32, before: u32, z: Sizes, run: Run) -> Limits
+    ensures { λ r. ⌜ r ≡ limitsAt area i before z run ⌝ }
+{
+    match area {
+        0 => Limits {
+            types: i,
+            constants: z.constants,
+            overrides: z.overrides,
+            expressions: z.expressions,
+            run,
+        },
+        4 => Limits {
+            types: before,
+            constants: z.constants,
+            overrides: z.overrides,
+            expressions: i,
+            run,
+        },
+        _ => Limits {
+            types: z.types,
+            constants: z.constants,
+            overrides: z.overrides,
+            expressions: z.expressions,
+            run,
+        },
+    }
+}
+
+// The types with dep below expression i, from those with dep below the one before it; only an expression needs them.
+fn leads(area: u32, i: u32, before: u32, n: u32, types: &[u32], overrides: &[u32]) -> u32
+    ensures { λ r. ⌜ r ≡ cond (eqb area 4) (leading (areasOf (now (types .entry)) [] (now (overrides .entry)) [] [] [] [] []) i before (n - before)) before ⌝ }
+{
+    if area == 4 {
+        return rules::prefix(types, overrides, before, n, i);
+    }
+    before
+}
+
+// Are the words of record i good within the limits, and its run below i ?
+fn record_passes(
+    l: Limits,
+    area: u32,
+    i: u32,
+    ws: &[u32],
+    at: usize,
+    pool: &[u32],
+    constants: &[u32],
+    overrides: &[u32],
+) -> bool
+    requires { ⌜ l .run .span ≡ spanIn (numbered area) (wordsFrom (now ws) at) ⌝ }
+    ensures { λ r. ⌜ r ≡ (every (goodBy (now (constants .entry)) (now (overrides .entry)) l) (wordsFrom (now (ws .entry)) at) 0 (body (numbered area) (wordsFrom (now (ws .entry)) at)) && all (λ w. ltb w i) (runIn (numbered area) (wordsFrom (now (ws .entry)) at) (now (pool .entry)))) ⌝ }
+{
+    if !rules::record_good(l, area, ws, at, constants, overrides) {
+        return false;
+    }
+    if l.run.span == 0 {
+        return true;
+    }
+    rules::all_below(slots::run(area, ws, at, pool), i)
+}
+
+// Do all records of an arena pass, and do their runs use up its pool ?
+fn arena_passes<'a>(
+    area: u32,
+    z: Sizes,
+    types: &'a [u32],
+    constants: &'a [u32],
+    overrides: &'a [u32],
+    globals: &'a [u32],
+    expressions: &'a [u32],
+    members: &'a [u32],
+    components: &'a [u32],
+    mentions: &'a [u32],
+) -> bool
+    requires { ⌜ area < 5 ⌝ }
+    requires { ⌜ Measured (areasOf (now (types)) (now (constants)) (now (overrides)) (now (globals)) (now (expressions)) (now (members)) (now (components)) (now (mentions))) ⌝ }
+    requires { ⌜ z ≡ sizesOf (areasOf (now (types)) (now (constants)) (now (overrides)) (now (globals)) (now (expressions)) (now (members)) (now (components)) (now (mentions))) ⌝ }
+    ensures { λ r. ⌜ (r ≡ true → Passed (areasOf (now (types .entry)) (now (constants .entry)) (now (overrides .entry)) (now (globals .entry)) (now (expressions .entry)) (now (members .entry)) (now (components .entry)) (now (mentions .entry))) area × Used (areasOf (now (types .entry)) (now (constants .entry)) (now (overrides .entry)) (now (globals .entry)) (now (expressions .entry)) (now (members .entry)) (now (components .entry)) (now (mentions .entry))) (numbered area)) ⌝ }
+{
+    let ws = places::arena_words(area, types, constants, overrides, globals, expressions);
+    let pool = places::pool_words(area, members, components);
+    let width = slots::arena_width(area);
+    let n = places::own_size(area, z);
+    let mut sum = 0;
+    let mut before = 0;
+    let mut i = 0;
+    while i < n {
+        let at = i as usize * width;
+        let span = slots::span(area, ws, at);
+        let room = pool.len();
+        before = leads(area, i, before, z.types, types, overrides);
+        let l = limits(area, i, before, z, Run { sum, span, room });
+        if !record_passes(l, area, i, ws, at, pool, constants, overrides) {
+            return false;
+        }
+        sum = places::capped(sum, span);
+        i += 1;
+    }
+    sum == pool.len()
+}
+
+// Do all mentions pass ?
+fn mentions_pass<'a>(
+    z: Sizes,
+    types: &'a [u32],
+    constants: &'a [u32],
+    overrides: &'a [u32],
+    globals: &'a [u32],
+    expressions: &'a [u32],
+    members: &'a [u32],
+    components: &'a [u32],
+    mentions: &'a [u32],
+) -> bool
+    requires { ⌜ Measured (areasOf (now (types)) (now (constants)) (now (overrides)) (now (globals)) (now (expressions)) (now (members)) (now (components)) (now (mentions))) ⌝ }
+    requires { ⌜ z ≡ sizesOf (areasOf (now (types)) (now (constants)) (now (overrides)) (now (globals)) (now (expressions)) (now (members)) (now (components)) (now (mentions))) ⌝ }
+    ensures { λ r. ⌜ (r ≡ true → Passed (areasOf (now (types .entry)) (now (constants .entry)) (now (overrides .entry)) (now (globals .entry)) (now (expressions .entry)) (now (members .entry)) (now (components .entry)) (now (mentions .entry))) 7) ⌝ }
+{
+    let n = Mention::count(mentions) as u32;
+    let mut i = 0;
+    while i < n {
+        let area = Mention::area(mentions, i);
+        if 5 <= area {
+            return false;
+        }
+        if places::own_size(area, z) <= Mention::handle(mentions, i) {
+            return false;
+        }
+        i += 1;
+    }
+    true
+}
+
+// Does the module pass ? Then no number from 4 to 7 has a fault.
+pub fn passes<'a>(
+    types: &'a [u32],
+    constants: &'a [u32],
+    overrides: &'a [u32],
+    globals: &'a [u32],
+    expressions: &'a [u32],
+    members: &'a [u32],
+    components: &'a [u32],
+    mentions: &'a [u32],
+) -> bool
+    requires { ⌜ Measured (areasOf (now (types)) (now (constants)) (now (overrides)) (now (globals)) (now (expressions)) (now (members)) (now (components)) (now (mentions))) ⌝ }
+    ensures { λ r. ⌜ (r ≡ true → (n : ℕ) → 4 ≤ n → n < 8 → inTurn (scanArea (areasOf (now (types .entry)) (now (constants .entry)) (now (overrides .entry)) (now (globals .entry)) (now (expressions .entry)) (now (members .entry)) (now (components .entry)) (now (mentions .entry))) n) 0 8 ≡ accepted) ⌝ }
+{
+    let z = places::sizes(
+        types,
+        constants,
+        overrides,
+        globals,
+        expressions,
+        members,
+        components,
+        mentions,
+    );
+    let mut area = 0;
+    while area < 5 {
+        if !arena_passes(
+            area,
+            z,
+            types,
+            constants,
+            overrides,
+            globals,
+            expressions,
+            members,
+            components,
+            mentions,
+        ) {
+            return false;
+        }
+        area += 1;
+    }
+    mentions_pass(
+        z,
+        types,
+        constants,
+        overrides,
+        globals,
+        expressions,
+        members,
+        components,
+        mentions,
+    )
+}

@@ -1,0 +1,168 @@
+-- `rules::slot_good` meets its contract: each arm is given which code it is.
+-- Assumes nothing.
+use mathlib.Core.Path.{_≡_, refl, sym}
+use mathlib.Core.Bool.{Bool}
+use mathlib.Core.List.{List, [], _∷_}
+use Prim.Native.Nat.{ℕ}
+use native.Mathlib.Decide.{decLe}
+use native.Mathlib.Omega.{arith}
+use lib.Dec.{eqb}
+use lib.ListN.{List·getD-eq-default}
+use borrow.Author.Needs.{needs}
+use borrow.Author.Tests.{eq-eqb, ne-eqb}
+use Rattle.definitions.specs.Areas.{Words, N, numbered}
+use Rattle.definitions.specs.Slots.{unused}
+use Rattle.slots.specs.Codes.{codes, decoded}
+use Rattle.slots.proofs.Decision.{NoneOf, at-keys, in-range}
+use Rattle.rules.specs.declared.Limits.{Limits}
+use Rattle.rules.specs.Rules.{fitBy, goodBy}
+use Rattle.rules.proofs.Arms.{and-first, and-second, or-first, or-second}
+use Rattle.rules.proofs.slot_good.Statement.{statement}
+use Rattle.rules.proofs.slot_good.Tie as tie
+
+-- opens the table of codes and what is asked
+table : ℕ
+unfolding decoded codes goodBy fitBy numbered
+table = 0
+
+-- r is the answer for the code
+abbrev Right : Words → Words → Limits → ℕ → Bool → ℕ → Type 0
+Right c o l w r code = r ≡ goodBy c o l (decoded code) w
+
+-- the codes of the arms, the last first
+abbrev keys : List (List ℕ)
+keys = (12 ∷ []) ∷ (11 ∷ []) ∷ (10 ∷ []) ∷ (9 ∷ []) ∷ (8 ∷ []) ∷ (7 ∷ []) ∷ (6 ∷ []) ∷ (5 ∷ []) ∷ (4 ∷ []) ∷ (3 ∷ []) ∷ (2 ∷ []) ∷ (1 ∷ []) ∷ []
+
+-- any other is that of an unused slot
+none : (code : ℕ) → NoneOf keys code → unused ≡ decoded code
+unfolding table
+none code n = elim (decLe 13 code) [
+  | yes l ↦ sym (List·getD-eq-default codes unused l)
+  | no l ↦ in-range (λ code. unused ≡ decoded code) keys 0 13 (refl, (tt, (tt, (tt, (tt, (tt, (tt, (tt, (tt, (tt, (tt, (tt, (tt, tt))))))))))))) code n (omega arith) (omega arith)
+]
+
+constant-fits-requires : tie.Need-constant-fits-requires
+constant-fits-requires c κs = search needs
+
+override-fits-requires : tie.Need-override-fits-requires
+override-fits-requires c κs = search needs
+
+cast-result : tie.Need-cast-result
+cast-result c = search needs
+
+add-result : tie.Need-add-result
+add-result c = search needs
+
+returns : tie.Need-returns
+unfolding table
+returns c =
+    let a = c .before .before .before .args in
+    at-keys (Right (a .constants .now) (a .overrides .now) (a .l) (a .w) _) (1 ∷ []) (refl, tt) _ (c .match .keys1)
+
+returns-2 : tie.Need-returns-2
+unfolding table
+returns-2 c =
+    let a = c .before .before .before .before .args in
+    at-keys (Right (a .constants .now) (a .overrides .now) (a .l) (a .w) _) (2 ∷ []) (refl, tt) _ (c .before .match .keys2)
+
+returns-3 : tie.Need-returns-3
+unfolding table
+returns-3 c =
+    let a = c .before .before .before .before .args in
+    at-keys (Right (a .constants .now) (a .overrides .now) (a .l) (a .w) _) (3 ∷ []) (c .constant-fits .ensures, tt) _ (c .before .match .keys3)
+
+returns-4 : tie.Need-returns-4
+unfolding table
+returns-4 c =
+    let a = c .before .before .before .before .args in
+    at-keys (Right (a .constants .now) (a .overrides .now) (a .l) (a .w) _) (4 ∷ []) (c .override-fits .ensures, tt) _ (c .before .match .keys4)
+
+returns-5 : tie.Need-returns-5
+unfolding table
+returns-5 c =
+    let a = c .before .before .before .before .args in
+    at-keys (Right (a .constants .now) (a .overrides .now) (a .l) (a .w) _) (5 ∷ []) (refl, tt) _ (c .before .match .keys5)
+
+returns-6 : tie.Need-returns-6
+unfolding table
+returns-6 c =
+    let a = c .before .before .before .before .args in
+    at-keys (Right (a .constants .now) (a .overrides .now) (a .l) (a .w) _) (6 ∷ []) (rw (eq-eqb _ N (c .if1 .taken)), tt) _ (c .before .match .keys6)
+
+returns-7 : tie.Need-returns-7
+unfolding table
+returns-7 c =
+    let a = c .before .before .before .before .before .args in
+    at-keys (Right (a .constants .now) (a .overrides .now) (a .l) (a .w) _) (6 ∷ []) (rw (ne-eqb _ N (c .before .if1 .left)), tt) _ (c .before .before .match .keys6)
+
+returns-8 : tie.Need-returns-8
+unfolding table
+returns-8 c =
+    let a = c .before .before .before .before .before .before .before .args in
+    at-keys (Right (a .constants .now) (a .overrides .now) (a .l) (a .w) _) (7 ∷ []) (and-second _ _ (eq-eqb _ _ (c .before .before .if2 .taken)), tt) _ (c .before .before .before .before .match .keys7)
+
+returns-9 : tie.Need-returns-9
+unfolding table
+returns-9 c =
+    let a = c .before .before .before .before .before .args in
+    at-keys (Right (a .constants .now) (a .overrides .now) (a .l) (a .w) _) (7 ∷ []) (and-first _ _ (ne-eqb _ _ (c .if2 .left)), tt) _ (c .before .before .match .keys7)
+
+returns-10 : tie.Need-returns-10
+unfolding table
+returns-10 c =
+    let a = c .before .before .before .args in
+    at-keys (Right (a .constants .now) (a .overrides .now) (a .l) (a .w) _) (8 ∷ []) (refl, tt) _ (c .match .keys8)
+
+returns-11 : tie.Need-returns-11
+unfolding table
+returns-11 c =
+    let a = c .before .before .before .args in
+    at-keys (Right (a .constants .now) (a .overrides .now) (a .l) (a .w) _) (9 ∷ []) (refl, tt) _ (c .match .keys9)
+
+returns-12 : tie.Need-returns-12
+unfolding table
+returns-12 c =
+    let a = c .before .before .before .args in
+    at-keys (Right (a .constants .now) (a .overrides .now) (a .l) (a .w) _) (10 ∷ []) (refl, tt) _ (c .match .keys10)
+
+returns-13 : tie.Need-returns-13
+unfolding table
+returns-13 c =
+    let a = c .before .before .before .args in
+    at-keys (Right (a .constants .now) (a .overrides .now) (a .l) (a .w) _) (11 ∷ []) (refl, tt) _ (c .match .keys11)
+
+returns-14 : tie.Need-returns-14
+unfolding table
+returns-14 c =
+    let a = c .before .before .before .args in
+    at-keys (Right (a .constants .now) (a .overrides .now) (a .l) (a .w) _) (12 ∷ []) (refl, tt) _ (c .match .keys12)
+
+returns-15 : tie.Need-returns-15
+unfolding table
+returns-15 c =
+    let a = c .before .before .before .args in
+    rw (← none _ (c .match .rest))
+
+pub slot-good-spec : {M : Type 1} → statement M
+slot-good-spec =
+    tie.close
+    (tie.spec
+    constant-fits-requires
+    override-fits-requires
+    cast-result
+    add-result
+    returns
+    returns-2
+    returns-3
+    returns-4
+    returns-5
+    returns-6
+    returns-7
+    returns-8
+    returns-9
+    returns-10
+    returns-11
+    returns-12
+    returns-13
+    returns-14
+    returns-15)
