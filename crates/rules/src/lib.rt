@@ -1,8 +1,8 @@
 // One record under numbers 4, 6 and 7: what is asked of its words and of its run.
 ghost use mathlib.Core.Path.{_≡_};
-ghost use mathlib.Core.Bool.{true, _||_};
+ghost use mathlib.Core.Bool.{true, false, _&&_, _||_, cond};
 ghost use mathlib.Core.List.{[], _∷_};
-ghost use Prim.Native.Nat.{ℕ, _-_};
+ghost use Prim.Native.Nat.{ℕ, suc, _-_, _<_};
 ghost use lib.Dec.{eqb, ltb};
 ghost use Rattle.definitions.specs.Areas.{Words, N, areasOf, numbered, width, wordOf, at, types, expressions};
 ghost use Rattle.definitions.specs.Lists.{all, any, total};
@@ -349,6 +349,31 @@ fn slots_good(
     true
 }
 
+// Are word k, a type, and the word after it, an init, good ? Unless it must be there the init may be N.
+fn typed_good(l: Limits, ws: &[u32], at: usize, k: usize, must: bool) -> bool
+    requires { ⌜ k < 2 ⌝ }
+    ensures { λ r. ⌜ r ≡ (ltb (wordsFrom (now (ws .entry)) at k) (l .types) && (cond must false (eqb (wordsFrom (now (ws .entry)) at (suc k)) N) || ltb (wordsFrom (now (ws .entry)) at (suc k)) (l .expressions))) ⌝ }
+{
+    if l.types <= slots::word(ws, at, k) {
+        return false;
+    }
+    let init = slots::word(ws, at, k + 1);
+    if init == N {
+        return !must;
+    }
+    init < l.expressions
+}
+
+// Is the first word a flag, and are the type and the init after it good ?
+fn named_good(l: Limits, ws: &[u32], at: usize, must: bool) -> bool
+    ensures { λ r. ⌜ r ≡ (ltb (wordsFrom (now (ws .entry)) at 0) 2 && (ltb (wordsFrom (now (ws .entry)) at 1) (l .types) && (cond must false (eqb (wordsFrom (now (ws .entry)) at 2) N) || ltb (wordsFrom (now (ws .entry)) at 2) (l .expressions)))) ⌝ }
+{
+    if 2 <= slots::word(ws, at, 0) {
+        return false;
+    }
+    typed_good(l, ws, at, 1, must)
+}
+
 // Are all words of the record that starts at a place good, but its tag ?
 pub fn record_good(
     l: Limits,
@@ -360,15 +385,20 @@ pub fn record_good(
 ) -> bool
     ensures { λ r. ⌜ r ≡ every (goodBy (now (constants .entry)) (now (overrides .entry)) l) (wordsFrom (now (ws .entry)) at) 0 (body (numbered area) (wordsFrom (now (ws .entry)) at)) ⌝ }
 {
-    slots_good(
-        l,
-        ws,
-        at,
-        slots::shape(area, ws, at),
-        slots::arena_width(area) - 1,
-        constants,
-        overrides,
-    )
+    match area {
+        1 => named_good(l, ws, at, true),
+        2 => named_good(l, ws, at, false),
+        3 => typed_good(l, ws, at, 0, false),
+        _ => slots_good(
+            l,
+            ws,
+            at,
+            slots::shape(area, ws, at),
+            slots::arena_width(area) - 1,
+            constants,
+            overrides,
+        ),
+    }
 }
 
 // Are all handles of a run below the bound ?

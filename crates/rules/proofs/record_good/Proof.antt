@@ -1,16 +1,54 @@
--- `rules::record_good` meets its contract: the body's slots are those of its shape.
+-- `rules::record_good` meets its contract: a constant, override or global has one shape; another body's slots are those of its shape.
 -- Assumes nothing.
-use mathlib.Core.Path.{ap, _∙_}
+use mathlib.Core.Path.{_≡_, sym, ap, _∙_}
+use mathlib.Core.Bool.{Bool, _&&_, _||_, and-true}
+use mathlib.Core.List.{[], _∷_}
+use Prim.Native.Nat.{ℕ}
 use native.Mathlib.Omega.{arith}
+use lib.Dec.{eqb, ltb}
 use borrow.Author.Needs.{needs}
-use Rattle.definitions.specs.Areas.{numbered}
+use Rattle.definitions.specs.Areas.{Words, N, numbered}
+use Rattle.definitions.specs.Slots.{body}
 use Rattle.definitions.specs.Refusals.{every}
 use Rattle.definitions.proofs.Reading.{width-pos}
 use Rattle.slots.specs.Codes.{wordsFrom}
+use Rattle.slots.proofs.Decision.{at-keys}
 use Rattle.slots.proofs.Laws.{body-shape}
-use Rattle.rules.specs.Rules.{goodBy}
+use Rattle.rules.specs.declared.Limits.{Limits}
+use Rattle.rules.specs.Rules.{fitBy, goodBy}
 use Rattle.rules.proofs.record_good.Statement.{statement}
 use Rattle.rules.proofs.record_good.Tie as tie
+
+-- opens the bodies that have one shape
+opened : ℕ
+unfolding numbered body every goodBy fitBy
+opened = 0
+
+-- r is the answer for the area
+abbrev Right : Words → Words → Limits → (ℕ → ℕ) → Bool → ℕ → Type 0
+Right c o l f r area = r ≡ every (goodBy c o l) f 0 (body (numbered area) f)
+
+module _ (c o : Words) (l : Limits) (f : ℕ → ℕ) {r : Bool} where
+  of-constant : r ≡ (ltb (f 0) 2 && (ltb (f 1) (l .types) && ltb (f 2) (l .expressions))) → Right c o l f r 1
+  unfolding opened
+  of-constant e = e ∙ ap (λ x. ltb (f 0) 2 && (ltb (f 1) (l .types) && x)) (sym (and-true (ltb (f 2) (l .expressions))))
+
+  of-override : r ≡ (ltb (f 0) 2 && (ltb (f 1) (l .types) && (eqb (f 2) N || ltb (f 2) (l .expressions)))) → Right c o l f r 2
+  unfolding opened
+  of-override e = e ∙ ap (λ x. ltb (f 0) 2 && (ltb (f 1) (l .types) && x)) (sym (and-true (eqb (f 2) N || ltb (f 2) (l .expressions))))
+
+  of-global : r ≡ (ltb (f 0) (l .types) && (eqb (f 1) N || ltb (f 1) (l .expressions))) → Right c o l f r 3
+  unfolding opened
+  of-global e = e ∙ ap (λ x. ltb (f 0) (l .types) && x) (sym (and-true (eqb (f 1) N || ltb (f 1) (l .expressions))))
+
+named-good-requires : tie.Need-named-good-requires
+named-good-requires c κs = search needs
+
+named-good-requires-2 : tie.Need-named-good-requires-2
+named-good-requires-2 c κs = search needs
+
+typed-good-requires : tie.Need-typed-good-requires
+typed-good-requires c κs = search needs
 
 shape-requires : tie.Need-shape-requires
 shape-requires c κs = search needs
@@ -19,14 +57,32 @@ arena-width-requires : tie.Need-arena-width-requires
 arena-width-requires c κs = search needs
 
 sub-slots-good : tie.Need-sub-slots-good
-sub-slots-good c = omega (arith, c .arena-width .ensures, width-pos (numbered (c .before .before .before .before .before .args .area)))
+sub-slots-good c = omega (arith, c .arena-width .ensures, width-pos (numbered (c .before .before .before .before .before .before .args .area)))
 
 slots-good-requires : tie.Need-slots-good-requires
 slots-good-requires c κs = search needs
 
 returns : tie.Need-returns
 returns c =
-    let a = c .before .before .before .before .before .before .args in
+    let a = c .before .before .before .before .before .args in
+    let f = wordsFrom (a .ws .now) (a .at) in
+    at-keys (Right (a .constants .now) (a .overrides .now) (a .l) f _) (1 ∷ []) (of-constant (a .constants .now) (a .overrides .now) (a .l) f (c .named-good .ensures), tt) _ (c .before .match .keys1)
+
+returns-2 : tie.Need-returns-2
+returns-2 c =
+    let a = c .before .before .before .before .before .args in
+    let f = wordsFrom (a .ws .now) (a .at) in
+    at-keys (Right (a .constants .now) (a .overrides .now) (a .l) f _) (2 ∷ []) (of-override (a .constants .now) (a .overrides .now) (a .l) f (c .named-good2 .ensures), tt) _ (c .before .match .keys2)
+
+returns-3 : tie.Need-returns-3
+returns-3 c =
+    let a = c .before .before .before .before .before .args in
+    let f = wordsFrom (a .ws .now) (a .at) in
+    at-keys (Right (a .constants .now) (a .overrides .now) (a .l) f _) (3 ∷ []) (of-global (a .constants .now) (a .overrides .now) (a .l) f (c .typed-good .ensures), tt) _ (c .before .match .keys3)
+
+returns-4 : tie.Need-returns-4
+returns-4 c =
+    let a = c .before .before .before .before .before .before .before .args in
     let f = wordsFrom (a .ws .now) (a .at) in
     c .slots-good .ensures
     ∙ ap (every (goodBy (a .constants .now) (a .overrides .now) (a .l)) f 0)
@@ -34,4 +90,16 @@ returns c =
 
 pub record-good-spec : {M : Type 1} → statement M
 record-good-spec =
-    tie.close (tie.spec shape-requires arena-width-requires sub-slots-good slots-good-requires returns)
+    tie.close
+    (tie.spec
+    named-good-requires
+    named-good-requires-2
+    typed-good-requires
+    shape-requires
+    arena-width-requires
+    sub-slots-good
+    slots-good-requires
+    returns
+    returns-2
+    returns-3
+    returns-4)
