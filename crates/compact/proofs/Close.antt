@@ -1,10 +1,11 @@
 -- What the stages of `compact` leave is the outcome.
 -- Assumes nothing.
 use mathlib.Core.Path.{_≡_, refl, sym, ap, subst, _∙_}
-use mathlib.Core.Bool.{Bool}
+use mathlib.Core.Bool.{Bool, true, false, _&&_, cond}
 use mathlib.Core.List.{List, [], _∷_}
-use Prim.Native.Nat.{ℕ, zero, suc, _/_, _≤_, _<_, min}
-use native.Mathlib.Nat.{le-refl, le-trans, div-one}
+use Prim.Native.Nat.{ℕ, zero, suc, _+_, _/_, _≤_, _<_, min}
+use native.Mathlib.Decide.{ℕ-discrete}
+use native.Mathlib.Nat.{le-refl, le-trans, div-one, not-suc-le-zero}
 use native.Mathlib.Omega.{arith}
 use lib.ListN.{length, getD}
 use lib.Dec.{T, eqb, leb, eqb→eq, leb→le, lit<}
@@ -14,10 +15,13 @@ use Rattle.definitions.specs.References.{span}
 use Rattle.definitions.specs.Sweep.{kept}
 use Rattle.definitions.specs.Refusals.{runsBefore, check, check3, passes}
 use Rattle.definitions.specs.Numbering.{rank, place, mapUpTo, isKept, mapAfter}
-use Rattle.definitions.specs.Records.{startAfter, runsUpTo, areasAfter}
+use Rattle.definitions.specs.Records.{startAfter, runsUpTo, keptAreas, areasAfter}
 use Rattle.definitions.specs.Outcome.{Maps, mapOf, lengths, keptCounts, mapsAfter, outcomeOf, outcome}
 use Rattle.definitions.proofs.Accepted.{Sound, facts, parts, areas-all}
-use Rattle.definitions.proofs.Kept.{lt-inside, kept-inside}
+use Rattle.definitions.proofs.Least.{_∈_, and-left, and-right}
+use Rattle.definitions.proofs.Places.{rank-le}
+use Rattle.definitions.proofs.Kept.{Inside, inside-lt, lt-inside, kept-inside}
+use Rattle.definitions.proofs.Identity.{whole, outcome-self}
 use Rattle.definitions.proofs.ListLaws.{total-any}
 use Rattle.definitions.proofs.Counts.{run-words}
 use Rattle.definitions.proofs.Unchanged.{accepted-is, outcome-accepted}
@@ -47,6 +51,19 @@ module _ (p q : ℕ → Bool) where
   map-same zero e = refl
   map-same (suc n) e =
       rw (e n (le-refl (suc n)), rank-same n (λ h l. e h (le-trans l (omega arith))), map-same n (λ h l. e h (le-trans l (omega arith))))
+
+-- where as many pass as there are, all pass
+rank-full : (p : ℕ → Bool) (n : ℕ) → rank p n ≡ n → (h : ℕ) → h < n → T (p h)
+unfolding rank total
+rank-full p zero e h l = absurd (not-suc-le-zero l)
+rank-full p (suc n) e h l = go (p n) refl e (rank-full p n)
+  where
+    go : (b : Bool) → p n ≡ b → cond b (rank p n + 1) (rank p n) ≡ suc n → (rank p n ≡ n → (h : ℕ) → h < n → T (p h)) → T (p h)
+    go true q r f = elim (ℕ-discrete h n) [
+      | yes z ↦ subst T (sym (ap p z ∙ q)) tt
+      | no z ↦ f (omega arith) h (omega arith)
+    ]
+    go false q r f = absurd (omega (arith, rank-le p n))
 
 module _ (s : Areas) (ws : List ℕ) (m : List Elem) (k : Marks s ws m) where
   -- the bit of a record says whether it is kept
@@ -116,6 +133,13 @@ pools-few s c m = (
   runs-few s c m types (c .members-used) (few (s .members) (leb→le (length (s .members) / 1) 16384 (c .few 5 (lit< tt)))),
   runs-few s c m expressions (c .components-used) (few (s .components) (leb→le (length (s .components) / 1) 16384 (c .few 6 (lit< tt)))),
 )
+
+-- an accepted module's pools are few words
+pub rooms : (s : Areas) (p : Maps) → T (passes (check s (lengths p))) → (length (s .members) ≤ 16384) × (length (s .components) ≤ 16384)
+unfolding recordsOf lengthOf allWords widths limits
+rooms s p t =
+    let c = facts s (lengths p) t .sound in
+    (few (s .members) (leb→le (length (s .members) / 1) 16384 (c .few 5 (lit< tt))), few (s .components) (leb→le (length (s .components) / 1) 16384 (c .few 6 (lit< tt))))
 
 -- what `from_set` leaves of an arena: its count and its map
 abbrev pub FromSet : List ℕ → ℕ → ℕ → Words → ℕ → Words → Type 0
@@ -191,6 +215,67 @@ module _ (s : Areas) (p : Maps) (keep : Bool) (t : T (passes (check s (lengths p
 
     pub components-few : {k6 : ℕ} {w′ : Words} → Pooled m4 (numbered 4) (s .expressions) (s .components) k6 w′ → k6 ≤ 16384
     components-few h = omega (arith, components-due h, pools-few s sound (kept s keep) .1)
+
+    -- every record is kept: the areas stay as they are
+    module _ {v : Bool} (e : v ≡ (eqb r0 (z .types) && (eqb r1 (z .constants) && (eqb r2 (z .overrides) && (eqb r3 (z .globals) && eqb r4 (z .expressions))))))
+        (q : v ≡ true) where
+      all-five : (r0 ≡ z .types) × (r1 ≡ z .constants) × (r2 ≡ z .overrides) × (r3 ≡ z .globals) × (r4 ≡ z .expressions)
+      all-five =
+          let c3 = eqb r3 (z .globals) && eqb r4 (z .expressions) in
+          let c2 = eqb r2 (z .overrides) && c3 in
+          let c1 = eqb r1 (z .constants) && c2 in
+          let t0 : T (eqb r0 (z .types) && c1) = subst T (sym q ∙ e) tt in
+          let t1 : T c1 = and-right (eqb r0 (z .types)) c1 t0 in
+          let t2 : T c2 = and-right (eqb r1 (z .constants)) c2 t1 in
+          let t3 : T c3 = and-right (eqb r2 (z .overrides)) c3 t2 in (
+            eqb→eq r0 (z .types) (and-left (eqb r0 (z .types)) c1 t0),
+            eqb→eq r1 (z .constants) (and-left (eqb r1 (z .constants)) c2 t1),
+            eqb→eq r2 (z .overrides) (and-left (eqb r2 (z .overrides)) c3 t2),
+            eqb→eq r3 (z .globals) (and-left (eqb r3 (z .globals)) (eqb r4 (z .expressions)) t3),
+            eqb→eq r4 (z .expressions) (and-right (eqb r3 (z .globals)) (eqb r4 (z .expressions)) t3),
+          )
+
+      counts-full : (a : Arena) → rank (isKept (kept s keep) a) (size s a) ≡ size s a
+      counts-full types = sym (g0 .0) ∙ all-five .0 ∙ ap (λ y. y .types) ze
+      counts-full constants = sym (g1 .0) ∙ all-five .1 ∙ ap (λ y. y .constants) ze
+      counts-full overrides = sym (g2 .0) ∙ all-five .2 ∙ ap (λ y. y .overrides) ze
+      counts-full globals = sym (g3 .0) ∙ all-five .3 ∙ ap (λ y. y .globals) ze
+      counts-full expressions = sym (g4 .0) ∙ all-five .4 ∙ ap (λ y. y .expressions) ze
+
+      nothing-dropped : (x : Elem) → Inside s x → x ∈ kept s keep
+      nothing-dropped (at a h) i = rank-full (isKept (kept s keep) a) (size s a) (counts-full a) h (inside-lt s a h i)
+
+      same-areas : keptAreas s (kept s keep) ≡ s
+      same-areas = whole s (kept s keep) sound (kept-inside s sound keep) nothing-dropped
+
+      whole-due : outcomeWith
+          (Kept (record { types = r0; constants = r1; overrides = r2; globals = r3; expressions = r4; members = length (s .members); components = length (s .components) }))
+          s
+          (mapsOf m0 m1 m2 m3 m4)
+          ≡ outcome s p keep
+      unfolding outcomeOf keptCounts keptAreas
+      whole-due =
+          let a : s ≡ areasAfter s (kept s keep) = sym (outcome-self s p keep t same-areas) ∙ ap (λ o. o .areas) (outcome-accepted s p keep t) in
+          let n : length (s .members) ≡ length (runsUpTo s (kept s keep) types (size s types)) = ap (λ x. length (x .members)) (sym same-areas) in
+          let w : length (s .components) ≡ length (runsUpTo s (kept s keep) expressions (size s expressions)) = ap (λ x. length (x .components)) (sym same-areas) in
+          (λ i.
+          record {
+            number = 0;
+            area = 0;
+            record′ = 0;
+            counts = g0 .0 i ∷ g1 .0 i ∷ g2 .0 i ∷ g3 .0 i ∷ g4 .0 i ∷ n i ∷ w i ∷ [];
+            areas = a i;
+            maps = maps-are i;
+          })
+          ∙ sym (outcome-accepted s p keep t)
+
+      -- for the flag that was asked for
+      pub whole-closes : {keep′ : Bool} → keep ≡ keep′
+          → Compacts s p keep′
+          (Kept (record { types = r0; constants = r1; overrides = r2; globals = r3; expressions = r4; members = length (s .members); components = length (s .components) })) s
+          (mapsOf m0 m1 m2 m3 m4)
+      unfolding passes
+      whole-closes h = record { verdict = sym (ap passes (accepted-is (check s (lengths p)) t)); outcome-is = whole-due ∙ ap (outcome s p) h }
 
     module _ {k5 k6 : ℕ} {t′ c′ o′ g′ e′ n′ w′ q′ : Words}
         (h5 : Pooled m0 (numbered 0) (s .types) (s .members) k5 n′)

@@ -1,5 +1,7 @@
 // What is kept of an accepted module: the roots marked, then the sweep.
 ghost use mathlib.Core.Path.{_≡_};
+ghost use mathlib.Core.Bool.{_&&_};
+ghost use lib.Dec.{eqb};
 ghost use lib.ListN.{replicate};
 ghost use Rattle.definitions.specs.Areas.{areasOf, size};
 ghost use Rattle.definitions.specs.Sweep.{kept};
@@ -47,6 +49,32 @@ pub fn measure<'a>(
         expressions: Expression::count(expressions) as u32,
         mentions: Mention::count(mentions) as u32,
     }
+}
+
+// Is every record kept ?
+pub fn all_kept(
+    z: Sizes,
+    types: u32,
+    constants: u32,
+    overrides: u32,
+    globals: u32,
+    expressions: u32,
+) -> bool
+    ensures { λ r. ⌜ r ≡ (eqb types (z .types) && (eqb constants (z .constants) && (eqb overrides (z .overrides) && (eqb globals (z .globals) && eqb expressions (z .expressions))))) ⌝ }
+{
+    if types != z.types {
+        return false;
+    }
+    if constants != z.constants {
+        return false;
+    }
+    if overrides != z.overrides {
+        return false;
+    }
+    if globals != z.globals {
+        return false;
+    }
+    expressions == z.expressions
 }
 
 // Marks what the sweep keeps.

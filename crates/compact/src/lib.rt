@@ -115,6 +115,24 @@ pub fn compact(
         z.expressions,
         expression_map,
     );
+    if keep::all_kept(
+        z,
+        kept_types,
+        kept_constants,
+        kept_overrides,
+        kept_globals,
+        kept_expressions,
+    ) {
+        return Compacted::Kept(Counts {
+            types: kept_types,
+            constants: kept_constants,
+            overrides: kept_overrides,
+            globals: kept_globals,
+            expressions: kept_expressions,
+            members: members.len() as u32,
+            components: components.len() as u32,
+        });
+    }
     let kept_members = adjust::adjust_pool(0, types, members, type_map);
     let kept_components = adjust::adjust_pool(4, expressions, components, expression_map);
     adjust::adjust_arena(
