@@ -11,13 +11,12 @@ use lib.ListN.{length, getD, take, drop, set, replicate, length-append, length-s
 use lib.Seq.{sets, getD-drop, getD-append-add, drop-cons, set-at, take-nil, drop-nil, length-take-le}
 use Rattle.definitions.specs.Lists.{total, gather, any}
 use Rattle.definitions.specs.Areas.{Words, N, Arena, numbered, width, wordOf}
-use Rattle.definitions.specs.Slots.{Slot, fill, body, tag, slots}
+use Rattle.definitions.specs.Slots.{Slot, slots}
 use Rattle.definitions.specs.Records.{padded}
 use Rattle.definitions.specs.Outcome.{Maps, mapOf}
 use Rattle.definitions.specs.MapEntries.{lookup}
-use Rattle.definitions.proofs.Reading.{length-slots, width-pos}
-use Rattle.slots.specs.Codes.{unpacked, spanIn, wordsFrom}
-use Rattle.slots.proofs.Laws.{body-shape}
+use Rattle.definitions.proofs.Reading.{length-slots}
+use Rattle.slots.specs.Codes.{spanIn, wordsFrom}
 use Rattle.adjust.specs.Rewrite.{runsBy, keptBy, recordFrom, spanOf, startBy, recordBy, arenaBy, runBy, poolBy, mentionBy, mentionsBy}
 use Rattle.adjust.proofs.Stores.{Partly, begun, dropped, moved, ended}
 
@@ -80,31 +79,27 @@ module _ (p : Maps) (a : Arena) (old : Words) (w : ℕ) where
       words-are : wordsFrom new from ≡ wordOf old a h
       words-are = same-words new old from (r .part .rest) ∙ ap (wordsFrom old) (r .at) ∙ ap (λ n. wordsFrom old (h * n)) wide
 
-      record-is : (shape : ℕ) → unpacked shape 10 ≡ fill 10 (body a (wordsFrom new from))
-          → recordFrom p start (wordsFrom new from) 0 (unpacked shape (w - 1) ++ tag) ≡ recordBy p a old h
-      unfolding recordBy slots
-      record-is shape e =
-          let n : w - 1 + 1 ≡ width a = omega (arith, wide, width-pos a) in
-          ap (λ ls. recordFrom p start (wordsFrom new from) 0 (ls ++ tag)) (body-shape a (wordsFrom new from) shape (w - 1) e n)
-          ∙ ap₂ (λ b f. recordFrom p b f 0 (slots a f)) (r .start-is) words-are
+      record-is : recordFrom p start (wordsFrom new from) 0 (slots a (wordsFrom new from)) ≡ recordBy p a old h
+      unfolding recordBy
+      record-is = ap₂ (λ b f. recordFrom p b f 0 (slots a f)) (r .start-is) words-are
 
       length-is : length (recordBy p a old h) ≡ w
       unfolding recordBy
       length-is = length-record p _ (wordOf old a h) 0 (slots a (wordOf old a h)) ∙ length-slots a (wordOf old a h) ∙ sym wide
 
-      pub record-kept : (new′ : Words) (start′ to′ span shape : ℕ) → keptBy own h ≡ true
-          → span ≡ spanIn a (wordsFrom new from) → unpacked shape 10 ≡ fill 10 (body a (wordsFrom new from))
-          → new′ ≡ sets new to (recordFrom p start (wordsFrom new from) 0 (unpacked shape (w - 1) ++ tag)) → start′ ≡ min (start + span) N → to′ ≡ to + w
+      pub record-kept : (new′ : Words) (start′ to′ span : ℕ) → keptBy own h ≡ true
+          → span ≡ spanIn a (wordsFrom new from)
+          → new′ ≡ sets new to (recordFrom p start (wordsFrom new from) 0 (slots a (wordsFrom new from))) → start′ ≡ min (start + span) N → to′ ≡ to + w
           → Rewriting new′ start′ (from + w) to′ (h + 1)
       unfolding startBy
-      record-kept new′ start′ to′ span shape d s f q t u =
+      record-kept new′ start′ to′ span d s q t u =
           let e : keptBy (mapOf p a) h ≡ true = ap (λ m. keptBy m h) (sym mine) ∙ d in
           let n : span ≡ spanOf a old h = s ∙ ap (spanIn a) words-are in
           let m : total (keptBy (mapOf p a)) (spanOf a old) (h + 1) ≡ total (keptBy (mapOf p a)) (spanOf a old) h + spanOf a old h = total-kept _ _ h e in
           record {
             at = next-at from h w (r .at);
             start-is = omega (arith, r .start-is);
-            part = moved _ _ _ _ _ _ _ w (within from h w (length old) (r .at) l) (r .part) new′ to′ e length-is (q ∙ ap (sets new to) (record-is shape f)) u;
+            part = moved _ _ _ _ _ _ _ w (within from h w (length old) (r .at) l) (r .part) new′ to′ e length-is (q ∙ ap (sets new to) record-is) u;
           }
 
   pub rewritten : (new last : Words) (start from to h : ℕ) → w ≡ width a → h ≡ length old / w → Rewriting new start from to h
@@ -175,6 +170,14 @@ module _ (own : Words) (a : Arena) (ws old : Words) (w : ℕ) where
             from-is = from-next;
             part = moved _ _ _ _ _ _ _ span fits (r .part) new′ to′ e length-run (q ∙ ap (sets new to) run-is) u;
           }
+
+      -- an empty run is moved by leaving all as it is
+      pub run-none : (new′ : Words) (to′ : ℕ) → span ≡ 0 → new′ ≡ new → to′ ≡ to → Packing new′ (from + span) to′ (at + w) (h + 1)
+      run-none new′ to′ z q u = go (keptBy own h) refl
+        where
+          go : (b : Bool) → keptBy own h ≡ b → Packing new′ (from + span) to′ (at + w) (h + 1)
+          go true e = run-kept new′ to′ e (q ∙ ap (λ n. sets new to (map (lookup own) (take n (drop from new)))) (sym z)) (omega arith)
+          go false e = run-dropped new′ to′ e q u
 
   pub packed : (new last : Words) (from to at h : ℕ) → w ≡ width a → h ≡ length ws / w → Packing new from to at h
       → last ≡ take to new ++ replicate (length new - to) N → last ≡ poolBy own a ws old

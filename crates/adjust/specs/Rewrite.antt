@@ -1,6 +1,6 @@
 -- Records, runs and mentions rewritten by maps, for any words: what the definitions say of what is kept, said of the maps.
 -- Assumes nothing.
-use mathlib.Core.Bool.{Bool, not, cond}
+use mathlib.Core.Bool.{Bool, false, not, cond}
 use mathlib.Core.List.{List, [], _∷_, _++_, map}
 use Prim.Native.Nat.{ℕ, suc, _+_, _*_, _/_, min}
 use lib.ListN.{length, getD, take, drop}
@@ -30,6 +30,14 @@ adjustedBy p b (must a) w = lookup (mapOf p a) w
 adjustedBy p b (may a) w = cond (eqb w N) N (lookup (mapOf p a) w)
 adjustedBy p b start w = b
 adjustedBy p b count w = w
+
+-- an init adjusted: unless it must be there it may be N
+unfoldable pub initBy : Bool → Words → ℕ → ℕ
+initBy due own w = cond (cond due false (eqb w N)) N (lookup own w)
+
+-- a type at word k, the init and the tag after it, adjusted
+unfoldable pub typedBy : Bool → Words → Words → (ℕ → ℕ) → ℕ → Words
+typedBy due t e f k = lookup t (f k) ∷ initBy due e (f (suc k)) ∷ f (suc (suc k)) ∷ []
 
 -- the words of a record from word k on, adjusted
 unfoldable pub recordFrom : Maps → ℕ → (ℕ → ℕ) → ℕ → List Slot → Words

@@ -1,15 +1,15 @@
 // Rewriting by the maps: records, pools and mentions in place, what was kept closed up, then N to the old end.
 ghost use mathlib.Core.Path.{_≡_};
-ghost use mathlib.Core.List.{_++_, map};
+ghost use mathlib.Core.List.{_∷_, _++_, map};
 ghost use Prim.Native.Nat.{_+_, _≤_, _<_, min};
 ghost use lib.ListN.{length, take, drop, replicate};
 ghost use lib.Seq.{sets};
-ghost use Rattle.definitions.specs.Areas.{N, numbered};
-ghost use Rattle.definitions.specs.Slots.{tag};
+ghost use Rattle.definitions.specs.Areas.{N, numbered, width};
+ghost use Rattle.definitions.specs.Slots.{tag, slots};
 ghost use Rattle.definitions.specs.Outcome.{mapOf};
 ghost use Rattle.definitions.specs.MapEntries.{lookup};
 ghost use Rattle.slots.specs.Codes.{arenaOf, slotOf, unpacked, wordsFrom};
-ghost use Rattle.adjust.specs.Rewrite.{mapsOf, keptBy, adjustedBy, recordFrom, arenaBy, poolBy, runsBy, mentionsBy};
+ghost use Rattle.adjust.specs.Rewrite.{mapsOf, keptBy, adjustedBy, recordFrom, initBy, typedBy, arenaBy, poolBy, runsBy, mentionsBy};
 use arena::N;
 use slots::Arena;
 use slots::Slot;
@@ -117,6 +117,95 @@ fn adjust_record<'a>(
     ws[to + n] = tag;
 }
 
+// An init adjusted. Unless it must be there it may be N.
+fn adjust_init(must: bool, init: u32, map: &[u32]) -> u32
+    ensures { λ r. ⌜ r ≡ initBy must (now (map .entry)) init ⌝ }
+{
+    if init == N {
+        if !must {
+            return N;
+        }
+    }
+    handle_map::lookup(map, init)
+}
+
+// The type at `from`, the init and the tag after it are written, adjusted, at `to`, which is no later.
+fn adjust_typed(
+    ws: &mut [u32],
+    from: usize,
+    to: usize,
+    must: bool,
+    type_map: &[u32],
+    expression_map: &[u32],
+)
+    requires { ⌜ (to ≤ from) × (from + 2 < length (now ws)) ⌝ }
+    ensures { λ _. ⌜ now (ws .exit) ≡ sets (now (ws .entry)) to (typedBy must (now («type_map» .entry)) (now («expression_map» .entry)) (wordsFrom (now (ws .entry)) from) 0) ⌝ }
+{
+    let ty = ws[from];
+    let init = ws[from + 1];
+    let tag = ws[from + 2];
+    ws[to] = handle_map::lookup(type_map, ty);
+    ws[to + 1] = adjust_init(must, init, expression_map);
+    ws[to + 2] = tag;
+}
+
+// As `adjust_typed`, with a flag before the type, which stays.
+fn adjust_named(
+    ws: &mut [u32],
+    from: usize,
+    to: usize,
+    must: bool,
+    type_map: &[u32],
+    expression_map: &[u32],
+)
+    requires { ⌜ (to ≤ from) × (from + 3 < length (now ws)) ⌝ }
+    ensures { λ _. ⌜ now (ws .exit) ≡ sets (now (ws .entry)) to (wordsFrom (now (ws .entry)) from 0 ∷ typedBy must (now («type_map» .entry)) (now («expression_map» .entry)) (wordsFrom (now (ws .entry)) from) 1) ⌝ }
+{
+    let flag = ws[from];
+    ws[to] = flag;
+    adjust_typed(ws, from + 1, to + 1, must, type_map, expression_map);
+}
+
+// The record at `from`, of an area whose records have `wide` words, is written, adjusted, at `to`, which is no later. Three areas have one shape each.
+fn adjust_kept<'a>(
+    area: u32,
+    ws: &mut [u32],
+    from: usize,
+    to: usize,
+    wide: usize,
+    start: u32,
+    type_map: &'a [u32],
+    constant_map: &'a [u32],
+    override_map: &'a [u32],
+    global_map: &'a [u32],
+    expression_map: &'a [u32],
+)
+    requires { ⌜ (to ≤ from) × (from + wide ≤ length (now ws)) × (wide ≡ width (numbered area)) ⌝ }
+    ensures { λ _. ⌜ now (ws .exit) ≡ sets (now (ws .entry)) to (recordFrom (mapsOf (now («type_map» .entry)) (now («constant_map» .entry)) (now («override_map» .entry)) (now («global_map» .entry)) (now («expression_map» .entry))) start (wordsFrom (now (ws .entry)) from) 0 (slots (numbered area) (wordsFrom (now (ws .entry)) from))) ⌝ }
+{
+    match area {
+        1 => adjust_named(ws, from, to, true, type_map, expression_map),
+        2 => adjust_named(ws, from, to, false, type_map, expression_map),
+        3 => adjust_typed(ws, from, to, false, type_map, expression_map),
+        _ => {
+            let shape = slots::shape(area, ws, from);
+            adjust_record(
+                ws,
+                from,
+                to,
+                wide - 1,
+                shape,
+                start,
+                type_map,
+                constant_map,
+                override_map,
+                global_map,
+                expression_map,
+            )
+        }
+    }
+}
+
 // N in every word.
 fn fill(ws: &mut [u32])
     ensures { λ _. ⌜ now (ws .exit) ≡ replicate (length (now (ws .entry))) N ⌝ }
@@ -177,13 +266,12 @@ pub fn adjust_arena<'a>(
     while h < n {
         if kept_at(own, h) {
             let span = slots::span(area, ws, from);
-            let shape = slots::shape(area, ws, from);
-            adjust_record(
+            adjust_kept(
+                area,
                 ws,
                 from,
                 to,
-                width - 1,
-                shape,
+                width,
                 start,
                 type_map,
                 constant_map,
@@ -227,7 +315,7 @@ pub fn adjust_pool(area: u32, ws: &[u32], pool: &mut [u32], own: &[u32]) -> usiz
         if pool.len() - from < span {
             span = pool.len() - from;
         }
-        if kept_at(own, h) {
+        if span != 0 && kept_at(own, h) {
             adjust_run(pool, from, to, span, own);
             to += span;
         }

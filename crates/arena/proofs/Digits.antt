@@ -1,7 +1,7 @@
--- Digits of a word in base 2: one of them set, and words that have the same.
+-- Digits of a word in base 2: one of them set, one as a number, and words that have the same.
 -- Assumes nothing.
 use mathlib.Core.Path.{_≡_, refl, ap, sym, subst, _∙_}
-use mathlib.Core.Bool.{true, false}
+use mathlib.Core.Bool.{true, false, cond}
 use Prim.Native.Nat.{ℕ, zero, suc, _+_, _-_, _*_, _/_, _%_, _^_, _<_, suc-le-suc, zero-le}
 use native.Mathlib.Nat.{pow-suc, one-mul, mod-lt, div-one, zero-div, mul-mod-left, div-eq-of-lt, zero-lt-suc}
 use native.Mathlib.Numerals.{add-one}
@@ -81,6 +81,16 @@ parity zero zero a b e = refl
 parity zero (suc q) a b e = absurd (eqb-false (suc q) 1 (sym e) (omega arith))
 parity (suc p) zero a b e = absurd (eqb-false (suc p) 1 e (omega arith))
 parity (suc p) (suc q) a b e = omega arith
+
+-- 0 or 1, read back from being 1
+read-back : (p : ℕ) → p < 2 → p ≡ cond (eqb p 1) 1 0
+read-back zero l = refl
+read-back (suc zero) l = refl
+read-back (suc (suc p)) l = absurd (omega arith)
+
+-- a digit as a number
+pub digit-number : (w k : ℕ) → w / 2 ^ k % 2 ≡ cond (digit w k) 1 0
+digit-number w k = read-back (w / 2 ^ k % 2) (mod-lt (w / 2 ^ k) (zero-lt-suc 1))
 
 -- two words of n digits that have the same are equal
 pub digits-equal : (n v w : ℕ) → v < 2 ^ n → w < 2 ^ n → ((k : ℕ) → k < n → digit v k ≡ digit w k) → v ≡ w

@@ -1,5 +1,6 @@
 // The set of marked elements: one bit for each, 64 to a word, the arenas one after another.
 ghost use mathlib.Core.Path.{_≡_};
+ghost use mathlib.Core.Bool.{cond};
 ghost use Prim.Native.Nat.{_+_, min};
 ghost use Rattle.definitions.specs.Areas.{N};
 ghost use Rattle.arena.specs.Elements.{elementOf};
@@ -73,6 +74,17 @@ pub fn contains_bit(marks: &[u64], i: usize) -> bool
         return (word >> (i % 64)) % 2 == 1;
     }
     false
+}
+
+// 1 where bit i is set, else 0. The remainder itself is answered, so that a loop over the bits needs no branch on them.
+pub fn bit_at(marks: &[u64], i: usize) -> u32
+    ensures { λ r. ⌜ r ≡ cond (member (now (marks .entry)) i) 1 0 ⌝ }
+{
+    if i / 64 < marks.len() {
+        let word = marks[i / 64];
+        return ((word >> (i % 64)) % 2) as u32;
+    }
+    0
 }
 
 // Sets bit i; past the words' end nothing changes.

@@ -115,6 +115,7 @@ pub fn compact(
         z.expressions,
         expression_map,
     );
+    // Nothing is lost: the areas stay as they are.
     if keep::all_kept(
         z,
         kept_types,

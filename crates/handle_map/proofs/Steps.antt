@@ -1,12 +1,13 @@
 -- One turn of the numbering: the map and the count of one record more.
 -- Assumes nothing.
 use mathlib.Core.Path.{_≡_, refl, sym, ap, _∙_}
-use mathlib.Core.Bool.{Bool, true, false}
+use mathlib.Core.Bool.{Bool, true, false, cond}
 use mathlib.Core.List.{List, [], _∷_, _++_, append-assoc}
 use Prim.Native.Nat.{ℕ, suc, _+_, _≤_, _<_, min}
 use native.Mathlib.Numerals.{add-one}
 use native.Mathlib.Omega.{arith}
 use lib.ListN.{length, getD, set, drop, length-set}
+use lib.Dec.{eqb}
 use lib.Seq.{drop-cons, set-at}
 use Rattle.definitions.specs.Areas.{Words, N}
 use Rattle.definitions.specs.Lists.{total, gather}
@@ -14,22 +15,29 @@ use Rattle.definitions.specs.Numbering.{rank, place, mapUpTo}
 use Rattle.definitions.proofs.Counts.{map-length}
 use Rattle.handle_map.specs.FromSet.{mapped}
 
+-- 1 more where it is kept
+counted : (b : Bool) (k : ℕ) → cond b (k + 1) k ≡ k + cond b 1 0
+counted true k = refl
+counted false k = omega arith
+
+-- the choice by the number is the choice by the mark
+picked : (b : Bool) (k : ℕ) → cond b k N ≡ cond (eqb (cond b 1 0) 0) N k
+picked true k = refl
+picked false k = refl
+
+-- a mark as a number
+pub at-most-one : (b : Bool) (one : ℕ) → one ≡ cond b 1 0 → one ≤ 1
+at-most-one true one e = omega arith
+at-most-one false one e = omega arith
+
 module _ (p : ℕ → Bool) where
-  rank-kept : (h : ℕ) → p h ≡ true → rank p (h + 1) ≡ rank p h + 1
+  rank-step : (h : ℕ) → rank p (h + 1) ≡ rank p h + cond (p h) 1 0
   unfolding rank total
-  rank-kept h e = rw (add-one h, e)
+  rank-step h = rw (add-one h) (counted (p h) (rank p h))
 
-  rank-dropped : (h : ℕ) → p h ≡ false → rank p (h + 1) ≡ rank p h
-  unfolding rank total
-  rank-dropped h e = rw (add-one h, e)
-
-  place-kept : (h : ℕ) → p h ≡ true → place p h ≡ rank p h
+  place-is : (h : ℕ) → place p h ≡ cond (eqb (cond (p h) 1 0) 0) N (rank p h)
   unfolding place
-  place-kept h e = rw e
-
-  place-dropped : (h : ℕ) → p h ≡ false → place p h ≡ N
-  unfolding place
-  place-dropped h e = rw e
+  place-is h = picked (p h) (rank p h)
 
   -- writing the place of h makes the map one longer
   map-step : (old : Words) (h v : ℕ) → h < length old → v ≡ place p h → set (mapped p h old) h v ≡ mapped p (h + 1) old
@@ -54,30 +62,19 @@ module _ (p : ℕ → Bool) where
   unfolding rank mapUpTo total gather
   at-start old n = record { h-le = omega arith; h-in = omega arith; next-le = omega arith; next-is = refl; map-is = refl; same-size = refl }
 
-  pub turn-kept : (old new new′ : Words) (n next next′ h : ℕ) → Numbered old n new next h → h < n → h < length new
-      → p h ≡ true → new′ ≡ set new h next → next′ ≡ next + 1 → Numbered old n new′ next′ (h + 1)
-  turn-kept old new new′ n next next′ h v l f t e q =
-      let b : h < length old = omega (arith, v .same-size) in
+  -- the word written and the number added are those of record h
+  pub turn : (old new : Words) (n next h one v : ℕ) → Numbered old n new next h → h < n → h < length new
+      → one ≡ cond (p h) 1 0 → v ≡ cond (eqb one 0) N next → Numbered old n (set new h v) (next + one) (h + 1)
+  turn old new n next h one v i l f o e =
+      let b : h < length old = omega (arith, i .same-size) in
+      let k : v ≡ place p h = e ∙ ap (λ m. cond (eqb m 0) N next) o ∙ ap (cond (eqb (cond (p h) 1 0) 0) N) (i .next-is) ∙ sym (place-is h) in
       record {
         h-le = omega arith;
         h-in = omega arith;
-        next-le = omega (arith, v .next-le);
-        next-is = q ∙ ap (λ k. k + 1) (v .next-is) ∙ sym (rank-kept h t);
-        map-is = e ∙ ap (λ r. set r h next) (v .map-is) ∙ map-step old h next b (v .next-is ∙ sym (place-kept h t));
-        same-size = ap length e ∙ length-set new h next ∙ v .same-size;
-      }
-
-  pub turn-dropped : (old new new′ : Words) (n next next′ h : ℕ) → Numbered old n new next h → h < n → h < length new
-      → p h ≡ false → new′ ≡ set new h N → next′ ≡ next → Numbered old n new′ next′ (h + 1)
-  turn-dropped old new new′ n next next′ h v l f t e q =
-      let b : h < length old = omega (arith, v .same-size) in
-      record {
-        h-le = omega arith;
-        h-in = omega arith;
-        next-le = omega (arith, v .next-le);
-        next-is = q ∙ v .next-is ∙ sym (rank-dropped h t);
-        map-is = e ∙ ap (λ r. set r h N) (v .map-is) ∙ map-step old h N b (sym (place-dropped h t));
-        same-size = ap length e ∙ length-set new h N ∙ v .same-size;
+        next-le = omega (arith, i .next-le, at-most-one (p h) one o);
+        next-is = ap (λ m. m + one) (i .next-is) ∙ ap (λ m. rank p h + m) o ∙ sym (rank-step h);
+        map-is = ap (λ r. set r h v) (i .map-is) ∙ map-step old h v b k;
+        same-size = length-set new h v ∙ i .same-size;
       }
 
   -- where the loop stops all records that have room are numbered

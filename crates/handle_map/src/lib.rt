@@ -1,7 +1,9 @@
 // The handle map: made from a set, and the map entries of document 01 over any map, on a plain slice and through a reader that holds the map it was lent.
 ghost use mathlib.Core.Path.{_≡_};
+ghost use mathlib.Core.Bool.{cond};
 ghost use Prim.Native.Nat.{min};
 ghost use lib.ListN.{length, getD};
+ghost use lib.Dec.{eqb};
 ghost use Rattle.definitions.specs.Areas.{N};
 ghost use Rattle.definitions.specs.Numbering.{rank};
 ghost use Rattle.definitions.specs.MapEntries.{lookup, adjust, live, last, spanned, range};
@@ -23,6 +25,16 @@ pub enum Ranged {
     Refused,
 }
 
+// The map's word of a record: N where it is dropped, else the next handle. It compiles to a choice of two values, with no branch.
+fn chosen(one: u32, next: u32) -> u32
+    ensures { λ r. ⌜ r ≡ cond (eqb one 0) N next ⌝ }
+{
+    if one == 0 {
+        return N;
+    }
+    next
+}
+
 // As the Rust's `HandleMap::from_set`: the map of an arena's n records from their marks, whose bits begin at the base: the new handle, or N, at each old record.
 // Words past the records stay; a map shorter than the records is filled. Answers how many are kept.
 pub fn from_set(marks: &[u64], base: u32, n: u32, map: &mut [u32]) -> u32
@@ -31,12 +43,9 @@ pub fn from_set(marks: &[u64], base: u32, n: u32, map: &mut [u32]) -> u32
     let mut next: u32 = 0;
     let mut h: u32 = 0;
     while h < n && (h as usize) < map.len() {
-        if handle_set::contains_bit(marks, base as usize + h as usize) {
-            map[h as usize] = next;
-            next += 1;
-        } else {
-            map[h as usize] = N;
-        }
+        let one = handle_set::bit_at(marks, base as usize + h as usize);
+        map[h as usize] = chosen(one, next);
+        next += one;
         h += 1;
     }
     next

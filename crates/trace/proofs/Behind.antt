@@ -63,6 +63,16 @@ unfolding bitsOf withBehind
 marked-one s b x ys {v} {w} {u} e p q =
     subst (λ l. Put (bit b x ∷ map (bit b) l) v u) (sym (append-nil (behind s x) ∙ e)) (put-more (bit b x ∷ []) (map (bit b) ys) (put-one p) q)
 
+-- nothing is marked with a type or an expression
+module _ (s : Areas) (b : Bases) (h : ℕ) {v u : List ℕ} where
+  pub marked-type : Inserted v (bit b (at types h)) u → Marked s b (at types h ∷ []) v u
+  unfolding behind
+  marked-type p = marked-one s b (at types h) [] refl p (put-none u)
+
+  pub marked-expression : Inserted v (bit b (at expressions h)) u → Marked s b (at expressions h ∷ []) v u
+  unfolding behind
+  marked-expression p = marked-one s b (at expressions h) [] refl p (put-none u)
+
 -- opens what is marked with an element
 opened : ℕ
 unfolding behind references namedFrom namedBy layout slots body word words run span hasRun

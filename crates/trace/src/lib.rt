@@ -3,26 +3,28 @@ mod roots;
 
 ghost use mathlib.Core.Bool.{cond};
 ghost use mathlib.Core.List.{[], _∷_, _++_, map};
-ghost use Rattle.definitions.specs.Areas.{areasOf, at, numbered, types, expressions, wordOf};
+ghost use Rattle.definitions.specs.Areas.{Words, Arena, areasOf, at, numbered, types, expressions, wordOf};
 ghost use Rattle.definitions.specs.Slots.{may, slots};
 ghost use Rattle.definitions.specs.References.{namedBy, namedFrom};
 ghost use Rattle.arena.specs.Elements.{elementOf};
 ghost use Rattle.arena.specs.HandleSet.{bit, member, room};
-ghost use Rattle.slots.specs.Codes.{unpacked, wordsFrom, slotOf, runIn};
+ghost use Rattle.slots.specs.Codes.{decoded, unpacked, wordsFrom, runIn};
 ghost use Rattle.slots.specs.Part.{part};
 ghost use Rattle.trace.specs.Bits.{added, bitsOf, Holds, Put, Marked, visitBits};
 use arena::Constant;
+use arena::ConstantHandle;
 use arena::Element;
 use arena::ExpressionHandle;
 use arena::Global;
+use arena::GlobalHandle;
 use arena::N;
 use arena::Override;
+use arena::OverrideHandle;
 use arena::TypeHandle;
 use arena::handle_set;
 use arena::handle_set::Bases;
 pub use roots::Counts;
 pub use roots::mark_roots;
-use slots::Slot;
 
 // Marks a type and, unless it is N, an init.
 fn mark_both(marks: &mut [u64], b: Bases, ty: TypeHandle, init: ExpressionHandle)
@@ -32,6 +34,36 @@ fn mark_both(marks: &mut [u64], b: Bases, ty: TypeHandle, init: ExpressionHandle
     if init.0 != N {
         handle_set::insert(marks, b, Element::Expression(init));
     }
+}
+
+// Marks a constant with its type and init, whatever the other arenas are.
+fn mark_constant(marks: &mut [u64], b: Bases, h: ConstantHandle, constants: &[u32])
+    ensures { λ _. ⌜ ((o g : Words) → Marked (part (now (constants .entry)) o g) b (at Arena.constants (h .0) ∷ []) (now (marks .entry)) (now (marks .exit))) ⌝ }
+{
+    handle_set::insert(marks, b, Element::Constant(h));
+    handle_set::insert(marks, b, Element::Type(Constant::ty(constants, h)));
+    handle_set::insert(marks, b, Element::Expression(Constant::init(constants, h)));
+}
+
+// Marks an override with its type and init.
+fn mark_override(marks: &mut [u64], b: Bases, h: OverrideHandle, overrides: &[u32])
+    ensures { λ _. ⌜ ((c g : Words) → Marked (part c (now (overrides .entry)) g) b (at Arena.overrides (h .0) ∷ []) (now (marks .entry)) (now (marks .exit))) ⌝ }
+{
+    handle_set::insert(marks, b, Element::Override(h));
+    mark_both(
+        marks,
+        b,
+        Override::ty(overrides, h),
+        Override::init(overrides, h),
+    );
+}
+
+// Marks a global with its type and init.
+fn mark_global(marks: &mut [u64], b: Bases, h: GlobalHandle, globals: &[u32])
+    ensures { λ _. ⌜ ((c o : Words) → Marked (part c o (now (globals .entry))) b (at Arena.globals (h .0) ∷ []) (now (marks .entry)) (now (marks .exit))) ⌝ }
+{
+    handle_set::insert(marks, b, Element::Global(h));
+    mark_both(marks, b, Global::ty(globals, h), Global::init(globals, h));
 }
 
 // Marks an element; a constant, override or global with its type and init at once.
@@ -45,55 +77,27 @@ pub fn mark(
 )
     ensures { λ _. ⌜ Marked (part (now (constants .entry)) (now (overrides .entry)) (now (globals .entry))) b (elementOf x ∷ []) (now (marks .entry)) (now (marks .exit)) ⌝ }
 {
-    handle_set::insert(marks, b, x);
     match x {
-        Element::Type(_) => {}
-        Element::Constant(h) => {
-            handle_set::insert(marks, b, Element::Type(Constant::ty(constants, h)));
-            handle_set::insert(marks, b, Element::Expression(Constant::init(constants, h)));
-        }
-        Element::Override(h) => mark_both(
-            marks,
-            b,
-            Override::ty(overrides, h),
-            Override::init(overrides, h),
-        ),
-        Element::Global(h) => mark_both(marks, b, Global::ty(globals, h), Global::init(globals, h)),
-        Element::Expression(_) => {}
+        Element::Type(h) => handle_set::insert(marks, b, Element::Type(h)),
+        Element::Constant(h) => mark_constant(marks, b, h, constants),
+        Element::Override(h) => mark_override(marks, b, h, overrides),
+        Element::Global(h) => mark_global(marks, b, h, globals),
+        Element::Expression(h) => handle_set::insert(marks, b, Element::Expression(h)),
     }
 }
 
-// Marks what a slot names.
-fn trace_slot(
-    marks: &mut [u64],
-    b: Bases,
-    slot: Slot,
-    w: u32,
-    constants: &[u32],
-    overrides: &[u32],
-    globals: &[u32],
-)
-    ensures { λ _. ⌜ Marked (part (now (constants .entry)) (now (overrides .entry)) (now (globals .entry))) b (namedBy (slotOf slot) w) (now (marks .entry)) (now (marks .exit)) ⌝ }
+// Marks what a slot names, by its code. No slot names a global.
+fn trace_slot(marks: &mut [u64], b: Bases, code: u64, w: u32, constants: &[u32], overrides: &[u32])
+    ensures { λ _. ⌜ ((g : Words) → Marked (part (now (constants .entry)) (now (overrides .entry)) g) b (namedBy (decoded code) w) (now (marks .entry)) (now (marks .exit))) ⌝ }
 {
-    match slot {
-        Slot::Must(arena) => mark(
-            marks,
-            b,
-            slots::element(arena, w),
-            constants,
-            overrides,
-            globals,
-        ),
-        Slot::May(arena) => {
+    match code {
+        2 => handle_set::insert(marks, b, Element::Type(TypeHandle(w))),
+        3 => mark_constant(marks, b, ConstantHandle(w), constants),
+        4 => mark_override(marks, b, OverrideHandle(w), overrides),
+        5 => handle_set::insert(marks, b, Element::Expression(ExpressionHandle(w))),
+        6 => {
             if w != N {
-                mark(
-                    marks,
-                    b,
-                    slots::element(arena, w),
-                    constants,
-                    overrides,
-                    globals,
-                );
+                handle_set::insert(marks, b, Element::Expression(ExpressionHandle(w)));
             }
         }
         _ => {}
@@ -119,11 +123,10 @@ fn trace_slots(
         trace_slot(
             marks,
             b,
-            slots::first(rest),
+            rest % 16,
             slots::word(ws, at, k),
             constants,
             overrides,
-            globals,
         );
         rest = rest / 16;
         k += 1;
@@ -167,11 +170,13 @@ pub fn trace(
             overrides,
             globals,
         );
-        trace_run(marks, b, area, slots::run(area, ws, at, pool));
+        if slots::span(area, ws, at) != 0 {
+            trace_run(marks, b, area, slots::run(area, ws, at, pool));
+        }
     }
 }
 
-// Visits a type. As the Rust's `TypeTracer::trace_type`, under its caller's test.
+// Visits a type. As the Rust's `TypeTracer::trace_type`, under its caller's test, which spares an unmarked type the call.
 pub fn trace_type<'a>(
     marks: &mut [u64],
     b: Bases,
@@ -187,20 +192,22 @@ pub fn trace_type<'a>(
 )
     ensures { λ _. ⌜ Holds (now (marks .entry)) (visitBits (areasOf (now (types .entry)) (now (constants .entry)) (now (overrides .entry)) (now (globals .entry)) (now (expressions .entry)) (now (members .entry)) (now (components .entry)) (now (mentions .entry))) b (room (now (marks .entry))) (member (now (marks .entry))) (at (numbered 0) (h .0))) (now (marks .exit)) ⌝ }
 {
-    trace(
-        marks,
-        b,
-        0,
-        h.0,
-        types,
-        members,
-        constants,
-        overrides,
-        globals,
-    );
+    if handle_set::contains(marks, b, Element::Type(h)) {
+        trace(
+            marks,
+            b,
+            0,
+            h.0,
+            types,
+            members,
+            constants,
+            overrides,
+            globals,
+        );
+    }
 }
 
-// Visits an expression. As `ExpressionTracer::trace_expression`, under its caller's test.
+// Visits an expression. As `ExpressionTracer::trace_expression`, under its caller's test, which spares an unmarked one the call.
 pub fn trace_expression<'a>(
     marks: &mut [u64],
     b: Bases,
@@ -216,15 +223,17 @@ pub fn trace_expression<'a>(
 )
     ensures { λ _. ⌜ Holds (now (marks .entry)) (visitBits (areasOf (now (types .entry)) (now (constants .entry)) (now (overrides .entry)) (now (globals .entry)) (now (expressions .entry)) (now (members .entry)) (now (components .entry)) (now (mentions .entry))) b (room (now (marks .entry))) (member (now (marks .entry))) (at (numbered 4) (h .0))) (now (marks .exit)) ⌝ }
 {
-    trace(
-        marks,
-        b,
-        4,
-        h.0,
-        expressions,
-        components,
-        constants,
-        overrides,
-        globals,
-    );
+    if handle_set::contains(marks, b, Element::Expression(h)) {
+        trace(
+            marks,
+            b,
+            4,
+            h.0,
+            expressions,
+            components,
+            constants,
+            overrides,
+            globals,
+        );
+    }
 }

@@ -57,20 +57,14 @@ kept-at-requires c κs = search needs
 span-requires : tie.Need-span-requires Inv-loop μ-loop
 span-requires c κs = search needs
 
-shape-requires : tie.Need-shape-requires Inv-loop μ-loop
-shape-requires c κs = search needs
-
-sub-adjust-record : tie.Need-sub-adjust-record Inv-loop μ-loop
-sub-adjust-record c = let w = wide (c .before .before .before .before .before .before .before .before .before .before .before) in omega arith
-
-adjust-record-requires : tie.Need-adjust-record-requires Inv-loop μ-loop
-adjust-record-requires c κs = let w = wide (c .before .before .before .before .before .before .before .before .before .before .before) in let r = room (c .before .before .before .before .before .before .before) in omega arith
+adjust-kept-requires : tie.Need-adjust-kept-requires Inv-loop μ-loop
+adjust-kept-requires c κs = let r = room (c .before .before .before .before .before) in omega (arith, c .before .before .before .before .before .before .before .before .before .arena-width .ensures)
 
 capped-requires : tie.Need-capped-requires Inv-loop μ-loop
 capped-requires c κs = search needs
 
 add-to : tie.Need-add-to Inv-loop μ-loop
-add-to c = let f = fits (c .before .before .before .before .before .before .before .before .before .before .before) in omega arith
+add-to c = let f = fits (c .before .before .before .before .before .before .before .before .before) in omega arith
 
 add-from : tie.Need-add-from Inv-loop μ-loop
 add-from c = let f = fits (c .before .before) in omega arith
@@ -90,7 +84,7 @@ loop-again c =
     let kept = sym (c .before .kept-at .ensures) in (
       search needs,
       ⊎-elim
-          (λ w. record-kept _ _ _ _ wide _ mine _ _ _ _ _ (omega arith) (l .inv .1) _ _ _ _ _ (kept ∙ w .0 .taken) (w .2 .ensures) (w .4 .ensures) (w .10 ∙ w .6 .ensures) (w .11 ∙ w .9 .ensures) (w .12))
+          (λ w. record-kept _ _ _ _ wide _ mine _ _ _ _ _ (omega arith) (l .inv .1) _ _ _ _ (kept ∙ w .0 .taken) (w .2 .ensures) (w .8 ∙ w .4 .ensures) (w .9 ∙ w .7 .ensures) (w .10))
           (λ w. record-dropped _ _ _ _ wide _ mine _ _ _ _ _ (omega arith) (l .inv .1) _ _ _ (kept ∙ w .0 .left) (w .1) (w .2) (w .3))
           (c .if1 .came),
     )
@@ -131,9 +125,7 @@ adjust-arena-spec =
     loop-holds
     kept-at-requires
     span-requires
-    shape-requires
-    sub-adjust-record
-    adjust-record-requires
+    adjust-kept-requires
     capped-requires
     add-to
     add-from

@@ -9,7 +9,7 @@ use lib.ListN.{length}
 use Rattle.definitions.specs.Areas.{numbered}
 use Rattle.definitions.proofs.Reading.{width-pos}
 use Rattle.adjust.proofs.Stores.{tail-filled}
-use Rattle.adjust.proofs.Passes.{within, Packing, packing, run-dropped, run-kept, packed, packed-count}
+use Rattle.adjust.proofs.Passes.{within, Packing, packing, run-dropped, run-kept, run-none, packed, packed-count}
 use borrow.Author.Needs.{needs}
 use Rattle.adjust.proofs.adjust_pool.Statement.{statement}
 use Rattle.adjust.proofs.adjust_pool.Tie as tie
@@ -53,33 +53,36 @@ kept-at-requires : tie.Need-kept-at-requires Inv-loop μ-loop
 kept-at-requires c κs = search needs
 
 adjust-run-requires : tie.Need-adjust-run-requires Inv-loop μ-loop
-adjust-run-requires c κs = let s = held (c .before .before .before) in omega arith
+adjust-run-requires c κs = let s = held (c .before .before .before .before) in omega arith
 
 add-to : tie.Need-add-to Inv-loop μ-loop
-add-to c = let s = fits (c .before .before .before .before .before .before .before) in omega arith
+add-to c = let s = fits (c .before .before .before .before .before .before .before .before) in omega arith
 
 add-from : tie.Need-add-from Inv-loop μ-loop
-add-from c = let s = fits (c .before .before .before) in omega arith
+add-from c = let s = fits (c .before .before) in omega arith
 
 add-at : tie.Need-add-at Inv-loop μ-loop
-add-at c = let r = within _ _ _ _ (c .before .before .before .before .before .before .loop .inv .1 .at-is) (c .before .before .before .before .before .loop-test .taken) in omega arith
+add-at c = let r = within _ _ _ _ (c .before .before .before .before .before .loop .inv .1 .at-is) (c .before .before .before .before .loop-test .taken) in omega arith
 
 add-h : tie.Need-add-h Inv-loop μ-loop
-add-h c = let d = div-le-self (length (c .before .before .before .before .before .before .before .before .before .before .before .args .ws .now)) (c .before .before .before .before .before .before .before .arena-width .result) in omega arith
+add-h c = let d = div-le-self (length (c .before .before .before .before .before .before .before .before .before .before .args .ws .now)) (c .before .before .before .before .before .before .arena-width .result) in omega arith
 
 loop-less : tie.Need-loop-less Inv-loop μ-loop
 loop-less c = search needs
 
 loop-again : tie.Need-loop-again Inv-loop μ-loop
 loop-again c =
-    let l = c .before .before .before .before .before .before .loop in
-    let wide = c .before .before .before .before .before .before .before .arena-width .ensures in
-    let kept = sym (c .before .before .kept-at .ensures) in
-    let s = held (c .before .before .before) in (
+    let l = c .before .before .before .before .before .loop in
+    let wide = c .before .before .before .before .before .before .arena-width .ensures in
+    let s = held (c .before .before) in
+    let count = c .before .before .before .span .ensures in (
       search needs,
       ⊎-elim
-          (λ w. run-kept _ _ _ _ _ wide _ _ _ _ _ _ _ (l .inv .1) (c .before .before .before .before .span .ensures) s _ _ (kept ∙ w .0 .taken) (w .6 ∙ w .2 .ensures) (w .7))
-          (λ w. run-dropped _ _ _ _ _ wide _ _ _ _ _ _ _ (l .inv .1) (c .before .before .before .before .span .ensures) s _ _ (kept ∙ w .0 .left) (w .1) (w .2))
+          (λ w. run-kept _ _ _ _ _ wide _ _ _ _ _ _ _ (l .inv .1) count s _ _ (sym (w .1 .ensures) ∙ w .2 .taken) (w .8 ∙ w .4 .ensures) (w .9))
+          (λ w. ⊎-elim
+          (λ v. run-dropped _ _ _ _ _ wide _ _ _ _ _ _ _ (l .inv .1) count s _ _ (sym (v .1 .ensures) ∙ v .2 .left) (w .1) (w .2))
+          (λ v. run-none _ _ _ _ _ wide _ _ _ _ _ _ _ (l .inv .1) count s _ _ (v .left) (w .1) (w .2))
+          (w .0 .came))
           (c .before .if2 .came),
     )
 

@@ -1,16 +1,21 @@
 -- `handle_map::from_set` meets its contract: after h turns the map of the first h records stands, and so many of them are kept.
 -- Assumes nothing.
-use mathlib.Core.Path.{_≡_, refl, sym, ap, _∙_}
-use mathlib.Core.Logic.{⊎-elim}
-use Prim.Native.Nat.{_-_, min}
+use mathlib.Core.Path.{_≡_}
+use mathlib.Core.Bool.{cond}
+use mathlib.Core.List.{List}
+use Prim.Native.Nat.{ℕ, _-_, _≤_}
 use native.Mathlib.Omega.{arith}
 use borrow.Author.Needs.{needs}
 use borrow.Author.Tests.{ltb-false}
-use lib.ListN.{length}
+use Rattle.arena.specs.HandleSet.{member}
 use Rattle.handle_map.specs.FromSet.{inSet}
-use Rattle.handle_map.proofs.Steps.{Numbered, at-start, turn-kept, turn-dropped, at-end}
+use Rattle.handle_map.proofs.Steps.{Numbered, at-most-one, at-start, turn, at-end}
 use Rattle.handle_map.proofs.from_set.Statement.{statement}
 use Rattle.handle_map.proofs.from_set.Tie as tie
+
+-- a bit as a number is at most 1
+bit-small : (ws : List ℕ) (i one : ℕ) → one ≡ cond (member ws i) 1 0 → one ≤ 1
+bit-small ws i = at-most-one (member ws i)
 
 abbrev Inv-loop : tie.InvT-loop
 Inv-loop marks base n map₀ next₀ h₀ map next h = Numbered (inSet marks base) map₀ n map next h
@@ -24,14 +29,17 @@ loop-holds c = at-start _ _ _
 cast-if1 : tie.Need-cast-if1 Inv-loop μ-loop
 cast-if1 c = search needs
 
-cast-contains-bit : tie.Need-cast-contains-bit Inv-loop μ-loop
-cast-contains-bit c = search needs
+cast-bit-at : tie.Need-cast-bit-at Inv-loop μ-loop
+cast-bit-at c = search needs
 
-add-contains-bit : tie.Need-add-contains-bit Inv-loop μ-loop
-add-contains-bit c = search needs
+add-bit-at : tie.Need-add-bit-at Inv-loop μ-loop
+add-bit-at c = search needs
 
-contains-bit-requires : tie.Need-contains-bit-requires Inv-loop μ-loop
-contains-bit-requires c κs = search needs
+bit-at-requires : tie.Need-bit-at-requires Inv-loop μ-loop
+bit-at-requires c κs = search needs
+
+chosen-requires : tie.Need-chosen-requires Inv-loop μ-loop
+chosen-requires c κs = search needs
 
 cast-map : tie.Need-cast-map Inv-loop μ-loop
 cast-map c = search needs
@@ -43,16 +51,7 @@ slice-write-map : tie.Need-slice-write-map Inv-loop μ-loop
 slice-write-map c = search needs
 
 add-next : tie.Need-add-next Inv-loop μ-loop
-add-next c = search needs
-
-cast-map-2 : tie.Need-cast-map-2 Inv-loop μ-loop
-cast-map-2 c = search needs
-
-mul-map-2 : tie.Need-mul-map-2 Inv-loop μ-loop
-mul-map-2 c = search needs
-
-slice-write-map-2 : tie.Need-slice-write-map-2 Inv-loop μ-loop
-slice-write-map-2 c = search needs
+add-next c = omega (arith, bit-small _ _ _ (c .before .bit-at .ensures))
 
 add-h : tie.Need-add-h Inv-loop μ-loop
 add-h c = search needs
@@ -62,12 +61,7 @@ loop-less c = search needs
 
 loop-again : tie.Need-loop-again Inv-loop μ-loop
 unfolding inSet
-loop-again c =
-    let v = c .before .before .before .before .loop .inv in
-    let e = sym (c .before .contains-bit .ensures) in
-    ⊎-elim (λ w. turn-kept _ _ _ _ _ _ _ _ v (search needs) (search needs) (e ∙ w .0 .taken) (w .1) (w .2))
-    (λ w. turn-dropped _ _ _ _ _ _ _ _ v (search needs) (search needs) (e ∙ w .0 .left) (w .1) (w .2))
-    (c .if2 .came)
+loop-again c = turn _ _ _ _ _ _ _ _ (c .before .before .before .before .loop .inv) (search needs) (search needs) (c .before .bit-at .ensures) (c .chosen .ensures)
 
 same-length : tie.Need-same-length Inv-loop μ-loop
 same-length c = search needs
@@ -93,16 +87,14 @@ from-set-spec =
     μ-loop
     loop-holds
     cast-if1
-    cast-contains-bit
-    add-contains-bit
-    contains-bit-requires
+    cast-bit-at
+    add-bit-at
+    bit-at-requires
+    chosen-requires
     cast-map
     mul-map
     slice-write-map
     add-next
-    cast-map-2
-    mul-map-2
-    slice-write-map-2
     add-h
     loop-less
     loop-again

@@ -2,18 +2,19 @@
 -- Assumes nothing.
 use mathlib.Core.Path.{_≡_, sym, ap, subst, _∙_}
 use mathlib.Core.Bool.{Bool}
-use mathlib.Core.List.{List}
+use mathlib.Core.List.{List, []}
 use Prim.Native.Nat.{ℕ, _+_, _*_, _<_}
 use native.Mathlib.Omega.{arith}
-use lib.ListN.{getD}
+use lib.ListN.{getD, take, drop}
 use mir.Syntax.{w64}
 use mir.Val.{Fits}
 use Rattle.definitions.specs.Areas.{Words, Areas, Arena, Elem, at, types, constants, overrides, globals, expressions, width, numbered, wordOf}
 use Rattle.arena.specs.HandleSet.{bit, member}
 use Rattle.arena.specs.declared.handle_set.Bases.{Bases}
-use Rattle.slots.specs.Codes.{wordsFrom}
+use Rattle.slots.specs.Codes.{wordsFrom, spanIn, runIn}
 use Rattle.slots.specs.Part.{part}
 use Rattle.trace.specs.Bits.{Marked}
+use Rattle.trace.proofs.Sets.{put-none}
 use Rattle.trace.proofs.Visit.{named, marked-named, visit-marked, visit-unmarked}
 use borrow.Author.Needs.{needs}
 use Rattle.trace.proofs.trace.Statement.{statement}
@@ -31,6 +32,11 @@ place-fits expressions i w l e = rw e (omega arith)
 place-words : (s : Areas) (b : Bases) (a : Arena) (ws p : Words) (i : ℕ) {w : ℕ} {v u : List ℕ} → w ≡ width a → Marked s b (named a (wordsFrom ws (i * w)) p) v u
     → Marked s b (named a (wordOf ws a i) p) v u
 place-words s b a ws p i {v = v} {u} e = subst (λ f. Marked s b (named a f p) v u) (ap (λ w k. getD ws (i * w + k) 0) e)
+
+-- a run of length 0 is empty
+no-run : (a : Arena) (f : ℕ → ℕ) (p : Words) {n : ℕ} → n ≡ spanIn a f → n ≡ 0 → [] ≡ runIn a f p
+unfolding runIn
+no-run a f p e z = ap (λ m. take m (drop (f 2) p)) (sym z ∙ e)
 
 -- the test is that of the record
 tested : (b : Bases) (v : List ℕ) {t r : Bool} {x : Elem} {a g : Arena} {i : ℕ} → t ≡ member v (bit b x) → x ≡ at g i → g ≡ a → t ≡ r → r ≡ member v (bit b (at a i))
@@ -59,6 +65,9 @@ shape-requires c κs = search needs
 trace-slots-requires : tie.Need-trace-slots-requires
 trace-slots-requires c κs = search needs
 
+span-requires : tie.Need-span-requires
+span-requires c κs = search needs
+
 run-requires : tie.Need-run-requires
 run-requires c κs = search needs
 
@@ -70,19 +79,30 @@ same-length c = search needs
 
 returns : tie.Need-returns
 returns c =
-    let a = c .before .before .before .before .before .before .before .before .before .before .before .before .before .before .before .before .before .before .before .before .before .before .args in
-    let d = c .before .before .before .before .before .before .before .before .before .before in
+    let a = c .before .before .before .before .before .before .before .before .before .before .before .before .before .before .before .before .before .before .before .before .before .before .before .before .args in
     let s = part (a .constants .now) (a .overrides .now) (a .globals .now) in
     let g = numbered (a .area) in
-    visit-marked s (a .b) (at g (a .i)) _ (tested (a .b) (a .marks .now) (d .before .before .contains .ensures) (d .before .before .before .element .ensures) (d .before .before .before .before .arena-at .ensures) (d .before .if1 .taken))
-    (place-words s (a .b) g (a .ws .now) (a .pool .now) (a .i) (d .arena-width .ensures)
-    (marked-named s (a .b) g _ (a .pool .now) _ (c .before .before .before .before .before .before .before .before .shape .ensures) (c .before .before .before .run .ensures) (c .before .before .before .before .before .before .before .trace-slots .ensures) (c .before .before .trace-run .ensures)))
+    visit-marked s (a .b) (at g (a .i)) _ (tested (a .b) (a .marks .now) (c .before .before .before .before .before .before .before .before .before .before .before .before .before .before .contains .ensures) (c .before .before .before .before .before .before .before .before .before .before .before .before .before .before .before .element .ensures) (c .before .before .before .before .before .before .before .before .before .before .before .before .before .before .before .before .arena-at .ensures) (c .before .before .before .before .before .before .before .before .before .before .before .before .before .if1 .taken))
+    (place-words s (a .b) g (a .ws .now) (a .pool .now) (a .i) (c .before .before .before .before .before .before .before .before .before .before .before .before .arena-width .ensures)
+    (marked-named s (a .b) g _ (a .pool .now) _ (c .before .before .before .before .before .before .before .before .before .before .shape .ensures) (c .before .before .before .run .ensures) (c .before .before .before .before .before .before .before .before .before .trace-slots .ensures) (c .before .before .trace-run .ensures)))
 
 same-length-2 : tie.Need-same-length-2
 same-length-2 c = search needs
 
 returns-2 : tie.Need-returns-2
 returns-2 c =
+    let a = c .before .before .before .before .before .before .before .before .before .before .before .before .before .before .before .before .before .before .before .args in
+    let s = part (a .constants .now) (a .overrides .now) (a .globals .now) in
+    let g = numbered (a .area) in
+    visit-marked s (a .b) (at g (a .i)) _ (tested (a .b) (a .marks .now) (c .before .before .before .before .before .before .before .before .before .contains .ensures) (c .before .before .before .before .before .before .before .before .before .before .element .ensures) (c .before .before .before .before .before .before .before .before .before .before .before .arena-at .ensures) (c .before .before .before .before .before .before .before .before .if1 .taken))
+    (place-words s (a .b) g (a .ws .now) (a .pool .now) (a .i) (c .before .before .before .before .before .before .before .arena-width .ensures)
+    (marked-named s (a .b) g _ (a .pool .now) _ (c .before .before .before .before .before .shape .ensures) (no-run g _ (a .pool .now) (c .before .span .ensures) (c .if2 .left)) (c .before .before .before .before .trace-slots .ensures) (put-none _)))
+
+same-length-3 : tie.Need-same-length-3
+same-length-3 c = search needs
+
+returns-3 : tie.Need-returns-3
+returns-3 c =
     let a = c .before .before .before .before .before .before .before .before .before .before .before .args in
     let s = part (a .constants .now) (a .overrides .now) (a .globals .now) in
     visit-unmarked s (a .b) (at (numbered (a .area)) (a .i)) (named (numbered (a .area)) (wordOf (a .ws .now) (numbered (a .area)) (a .i)) (a .pool .now)) (a .marks .now)
@@ -99,9 +119,12 @@ trace-spec =
     mul-at
     shape-requires
     trace-slots-requires
+    span-requires
     run-requires
     trace-run-requires
     same-length
     returns
     same-length-2
-    returns-2)
+    returns-2
+    same-length-3
+    returns-3)

@@ -1,10 +1,15 @@
 -- `trace::trace_expression` meets its contract: the visit of an expression is the module's.
 -- Assumes nothing.
-use Rattle.definitions.specs.Areas.{areasOf, expressions, words, numbered, pool}
-use Rattle.trace.proofs.Visit.{visit-in}
+use mathlib.Core.Path.{sym, _∙_}
+use Rattle.definitions.specs.Areas.{areasOf, at, expressions, words, numbered, pool}
+use Rattle.slots.specs.Part.{part}
+use Rattle.trace.proofs.Visit.{visit-unmarked, visit-in}
 use borrow.Author.Needs.{needs}
 use Rattle.trace.proofs.trace_expression.Statement.{statement}
 use Rattle.trace.proofs.trace_expression.Tie as tie
+
+contains-requires : tie.Need-contains-requires
+contains-requires c κs = search needs
 
 trace-requires : tie.Need-trace-requires
 trace-requires c κs = search needs
@@ -15,9 +20,22 @@ same-length c = search needs
 returns : tie.Need-returns
 unfolding numbered words pool
 returns c =
-    let a = c .before .before .before .before .before .before .before .before .before .before .before .before .before .args in
+    let a = c .before .before .before .before .before .before .before .before .before .before .before .before .before .before .before .before .args in
     let s = areasOf (a .types .now) (a .constants .now) (a .overrides .now) (a .globals .now) (a .expressions .now) (a .members .now) (a .components .now) (a .mentions .now) in
     visit-in s (a .b) expressions (a .h .0) (c .before .before .trace .ensures)
 
+same-length-2 : tie.Need-same-length-2
+same-length-2 c = search needs
+
+returns-2 : tie.Need-returns-2
+unfolding numbered words pool
+returns-2 c =
+    let a = c .before .before .before .before .before .before .before .before .before .before .before .before .args in
+    let s = areasOf (a .types .now) (a .constants .now) (a .overrides .now) (a .globals .now) (a .expressions .now) (a .members .now) (a .components .now) (a .mentions .now) in
+    let p = part (a .constants .now) (a .overrides .now) (a .globals .now) in
+    visit-in s (a .b) expressions (a .h .0) (visit-unmarked p (a .b) (at expressions (a .h .0)) _ _ (sym (c .if1 .left) ∙ c .before .contains .ensures))
+
 pub trace-expression-spec : {M : Type 1} → statement M
-trace-expression-spec = tie.close (tie.spec trace-requires same-length returns)
+trace-expression-spec =
+    tie.close
+    (tie.spec contains-requires trace-requires same-length returns same-length-2 returns-2)

@@ -1,12 +1,11 @@
 -- `trace::trace_slots` meets its contract. The loop's invariant: what the slots that are left name is left to mark.
 -- Assumes nothing.
-use mathlib.Core.Path.{_≡_, sym, ap, ap₂, _∙_}
+use mathlib.Core.Path.{_≡_, sym, ap, _∙_}
 use mathlib.Core.List.{[], _++_}
 use Prim.Native.Nat.{ℕ, suc, _+_, _-_, _/_, _%_, _≤_, _<_}
 use native.Mathlib.Numerals.{add-one}
 use native.Mathlib.Omega.{arith}
 use borrow.Author.Tests.{eqb-true, not-false}
-use Rattle.definitions.specs.Slots.{Slot}
 use Rattle.definitions.specs.References.{namedBy, namedFrom}
 use Rattle.slots.specs.Codes.{decoded, unpacked, wordsFrom}
 use Rattle.slots.specs.Part.{part}
@@ -20,12 +19,12 @@ use Rattle.trace.proofs.trace_slots.Tie as tie
 
 module _ (f : ℕ → ℕ) (rest k : ℕ) where
   -- a slot and its word
-  turn : {l : Slot} {w : ℕ} → k < 10 → l ≡ decoded (rest % 16) → w ≡ f k
-      → namedFrom f k (unpacked rest (10 - k)) ≡ namedBy l w ++ namedFrom f (k + 1) (unpacked (rest / 16) (10 - (k + 1)))
+  turn : {w : ℕ} → k < 10 → w ≡ f k
+      → namedFrom f k (unpacked rest (10 - k)) ≡ namedBy (decoded (rest % 16)) w ++ namedFrom f (k + 1) (unpacked (rest / 16) (10 - (k + 1)))
   unfolding namedFrom unpacked
-  turn h x y =
+  turn h y =
       let m : 10 - k ≡ suc (10 - (k + 1)) = omega arith in
-      rw (m, ← add-one k) (ap (λ n. n ++ namedFrom f (k + 1) (unpacked (rest / 16) (10 - (k + 1)))) (sym (ap₂ namedBy x y)))
+      rw (m, ← add-one k) (ap (λ n. n ++ namedFrom f (k + 1) (unpacked (rest / 16) (10 - (k + 1)))) (sym (ap (namedBy (decoded (rest % 16))) y)))
 
   -- no named slot is left
   none-left : rest ≡ 0 → namedFrom f k (unpacked rest (10 - k)) ≡ []
@@ -47,9 +46,6 @@ abbrev μ-loop : tie.MeasureT-loop
 loop-holds : tie.Need-loop-holds Inv-loop μ-loop
 loop-holds c = (search needs, λ u p. p)
 
-first-requires : tie.Need-first-requires Inv-loop μ-loop
-first-requires c κs = search needs
-
 word-requires : tie.Need-word-requires Inv-loop μ-loop
 word-requires c κs = search needs
 
@@ -64,12 +60,12 @@ loop-less c = search needs
 
 loop-again : tie.Need-loop-again Inv-loop μ-loop
 loop-again c =
-    let a = c .before .before .before .before .before .before .before .before .before .before .before .before .before .before .args in
-    let l = c .before .before .before .before .before .before .before .before .loop in
+    let a = c .before .before .before .before .before .before .before .before .before .before .before .before .before .args in
+    let l = c .before .before .before .before .before .before .before .loop in
     let s = part (a .constants .now) (a .overrides .now) (a .globals .now) in
     let f = wordsFrom (a .ws .now) (a .at) in
-    let x = turn f (l .rest) (l .k) (omega arith) (c .before .before .before .before .first .ensures) (c .before .before .before .word .ensures) in
-    (search needs, marked-turn s (a .b) _ _ _ _ x (c .before .before .trace-slot .ensures) (l .inv .1))
+    let x = turn f (l .rest) (l .k) (omega arith) (c .before .before .before .word .ensures) in
+    (search needs, marked-turn s (a .b) _ _ _ _ x (c .before .before .trace-slot .ensures (a .globals .now)) (l .inv .1))
 
 returns : tie.Need-returns Inv-loop μ-loop
 returns c =
@@ -100,7 +96,6 @@ trace-slots-spec =
     Inv-loop
     μ-loop
     loop-holds
-    first-requires
     word-requires
     trace-slot-requires
     add-k

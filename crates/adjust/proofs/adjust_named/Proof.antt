@@ -1,0 +1,68 @@
+-- `adjust::adjust_named` meets its contract: the flag is written before any of the words after it.
+-- Assumes nothing.
+use mathlib.Core.Path.{_≡_, refl, sym, ap, ap₂, _∙_}
+use mathlib.Core.Bool.{Bool}
+use mathlib.Core.List.{[], _∷_}
+use Prim.Native.Nat.{ℕ, suc, _+_, _≤_, _<_}
+use native.Mathlib.Nat.{add-zero}
+use native.Mathlib.Omega.{arith}
+use lib.ListN.{getD, set, length-set}
+use lib.Seq.{sets, getD-set-other}
+use borrow.Author.Needs.{needs}
+use Rattle.definitions.specs.Areas.{Words}
+use Rattle.slots.specs.Codes.{wordsFrom}
+use Rattle.adjust.specs.Rewrite.{typedBy}
+use Rattle.adjust.proofs.adjust_named.Statement.{statement}
+use Rattle.adjust.proofs.adjust_named.Tie as tie
+
+-- a flag stored, and then what comes after it, is the record
+flagged : (due : Bool) (t e ws : Words) (from to : ℕ) {new : Words} → to ≤ from
+    → new ≡ sets (set ws to (getD ws from 0)) (to + 1) (typedBy due t e (wordsFrom (set ws to (getD ws from 0)) (from + 1)) 0)
+    → new ≡ sets ws to (wordsFrom ws from 0 ∷ typedBy due t e (wordsFrom ws from) 1)
+unfolding typedBy
+flagged due t e ws from to {new} l q =
+    let n : to + 1 ≡ suc to = omega arith in
+    let at : (k : ℕ) → getD (set ws to (getD ws from 0)) (from + 1 + k) 0 ≡ getD ws (from + suc k) 0 =
+    λ k. getD-set-other ws to (from + 1 + k) (getD ws from 0) 0 (λ q. omega arith) ∙ ap (λ i. getD ws i 0) (omega arith) in
+    q ∙ rw (n, at 0, at 1, at 2, add-zero from)
+
+mul-flag : tie.Need-mul-flag
+mul-flag c = search needs
+
+slice-read-flag : tie.Need-slice-read-flag
+slice-read-flag c = search needs
+
+mul-ws : tie.Need-mul-ws
+mul-ws c = search needs
+
+slice-write-ws : tie.Need-slice-write-ws
+slice-write-ws c = search needs
+
+add-adjust-typed : tie.Need-add-adjust-typed
+add-adjust-typed c = search needs
+
+add-adjust-typed-2 : tie.Need-add-adjust-typed-2
+add-adjust-typed-2 c = search needs
+
+adjust-typed-requires : tie.Need-adjust-typed-requires
+adjust-typed-requires c κs = let n = length-set (c .before .before .before .before .before .args .ws .now) (c .before .before .before .before .before .args .to) (getD (c .before .before .before .before .before .args .ws .now) (c .before .before .before .before .before .args .from) 0) in omega arith
+
+same-length : tie.Need-same-length
+same-length c = c .before .before .adjust-typed .kept .0 ∙ length-set (c .before .before .before .before .before .before .before .before .args .ws .now) (c .before .before .before .before .before .before .before .before .args .to) _
+
+returns : tie.Need-returns
+returns c = flagged (c .before .before .before .before .before .before .before .before .args .must) (c .before .before .before .before .before .before .before .before .args .type-map .now) (c .before .before .before .before .before .before .before .before .args .expression-map .now) (c .before .before .before .before .before .before .before .before .args .ws .now) (c .before .before .before .before .before .before .before .before .args .from) (c .before .before .before .before .before .before .before .before .args .to) (omega arith) (c .before .before .adjust-typed .ensures)
+
+pub adjust-named-spec : {M : Type 1} → statement M
+adjust-named-spec =
+    tie.close
+    (tie.spec
+    mul-flag
+    slice-read-flag
+    mul-ws
+    slice-write-ws
+    add-adjust-typed
+    add-adjust-typed-2
+    adjust-typed-requires
+    same-length
+    returns)
