@@ -2,7 +2,7 @@
 -- Assumes nothing.
 use mathlib.Core.Path.{_≡_, refl, sym, ap, subst, _∙_}
 use mathlib.Core.Bool.{Bool, true, false, _&&_, _||_, not, cond}
-use mathlib.Core.Logic.{_⊎_, inl, inr, ⊎-elim}
+use mathlib.Core.Logic.{_⊎_, inr, ⊎-elim}
 use mathlib.Core.List.{List, [], _∷_}
 use Prim.Native.Nat.{ℕ, zero, suc, _+_, _-_, _*_, _/_, _≤_, _<_, min}
 use native.Mathlib.Decide.{ℕ-discrete}
@@ -30,7 +30,6 @@ use Rattle.rules.specs.declared.Sizes.{Sizes}
 use Rattle.rules.specs.Rules.{sizeIn, sizesOf, within, goodBy, leading}
 use Rattle.rules.proofs.Laws.{size-in, leading-le}
 use Rattle.rules.proofs.AtOnce.{Enough, good-keeps, good-kind}
-use Rattle.faults.specs.declared.places.Carried.{Carried}
 use Rattle.faults.specs.Faults.{Measured, most, limitsAt, boundsAt, looksAt, okAt, carriedAt, carriedTo, placesIn, placesAt, ownerOf, ok4, inTurn, scanArea, Passed, Used}
 use Rattle.faults.proofs.Scans.{all-accepted, turns-accepted}
 use Rattle.faults.proofs.Arenas.{five, pools, words-at, start, run-at, room-le}

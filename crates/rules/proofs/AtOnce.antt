@@ -1,19 +1,18 @@
 -- A record whose words are good at once keeps each of the rules, and its kind is a module's.
 -- Assumes nothing.
-use mathlib.Core.Path.{_≡_, refl, sym, ap, subst, _∙_}
+use mathlib.Core.Path.{_≡_, sym, subst}
 use mathlib.Core.Bool.{Bool, true, false, _&&_, _||_, cond}
-use mathlib.Core.Logic.{_⊎_, ⊎-elim}
 use mathlib.Core.List.{List, [], _∷_}
-use Prim.Native.Nat.{ℕ, suc, _+_, _≤_, _<_}
+use Prim.Native.Nat.{ℕ, suc, _≤_, _<_}
 use native.Mathlib.Nat.{le-trans}
-use lib.Dec.{T, eqb, ltb, leb, ltb→lt, lt→ltb}
+use lib.Dec.{T, eqb, ltb, ltb→lt, lt→ltb}
 use Rattle.definitions.specs.Lists.{all}
 use Rattle.definitions.specs.Areas.{Words, N, Arena, at, types, constants, overrides, globals, expressions, wordOf}
 use Rattle.definitions.specs.Slots.{Slot, unused, free, below, must, may, start, count, fill, exprSlots, exprBody, body, slots}
 use Rattle.definitions.specs.References.{namedBy}
 use Rattle.definitions.specs.Order.{withBehind}
 use Rattle.definitions.specs.Refusals.{every}
-use Rattle.definitions.proofs.Least.{and-left, and-right, or-cases}
+use Rattle.definitions.proofs.Least.{and-left, and-right}
 use Rattle.definitions.proofs.AcceptedAfter.{both}
 use Rattle.slots.specs.Part.{part}
 use Rattle.slots.proofs.Laws.{every-tag}

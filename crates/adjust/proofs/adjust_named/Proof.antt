@@ -1,9 +1,9 @@
 -- `adjust::adjust_named` meets its contract: the flag is written before any of the words after it.
 -- Assumes nothing.
-use mathlib.Core.Path.{_≡_, refl, sym, ap, ap₂, _∙_}
+use mathlib.Core.Path.{_≡_, ap, _∙_}
 use mathlib.Core.Bool.{Bool}
-use mathlib.Core.List.{[], _∷_}
-use Prim.Native.Nat.{ℕ, suc, _+_, _≤_, _<_}
+use mathlib.Core.List.{_∷_}
+use Prim.Native.Nat.{ℕ, suc, _+_, _≤_}
 use native.Mathlib.Nat.{add-zero}
 use native.Mathlib.Omega.{arith}
 use lib.ListN.{getD, set, length-set}
@@ -20,10 +20,10 @@ flagged : (due : Bool) (t e ws : Words) (from to : ℕ) {new : Words} → to ≤
     → new ≡ sets (set ws to (getD ws from 0)) (to + 1) (typedBy due t e (wordsFrom (set ws to (getD ws from 0)) (from + 1)) 0)
     → new ≡ sets ws to (wordsFrom ws from 0 ∷ typedBy due t e (wordsFrom ws from) 1)
 unfolding typedBy
-flagged due t e ws from to {new} l q =
+flagged due t e ws from to l q =
     let n : to + 1 ≡ suc to = omega arith in
     let at : (k : ℕ) → getD (set ws to (getD ws from 0)) (from + 1 + k) 0 ≡ getD ws (from + suc k) 0 =
-    λ k. getD-set-other ws to (from + 1 + k) (getD ws from 0) 0 (λ q. omega arith) ∙ ap (λ i. getD ws i 0) (omega arith) in
+    λ k. getD-set-other ws to (from + 1 + k) (getD ws from 0) 0 (λ e. omega arith) ∙ ap (λ i. getD ws i 0) (omega arith) in
     q ∙ rw (n, at 0, at 1, at 2, add-zero from)
 
 mul-flag : tie.Need-mul-flag

@@ -6,7 +6,6 @@ use mathlib.Core.List.{List, [], _∷_}
 use Prim.Native.Nat.{ℕ}
 use native.Mathlib.Decide.{decLe}
 use native.Mathlib.Omega.{arith}
-use lib.Dec.{eqb}
 use lib.ListN.{List·getD-eq-default}
 use borrow.Author.Needs.{needs}
 use borrow.Author.Tests.{eq-eqb, ne-eqb}
@@ -16,7 +15,7 @@ use Rattle.slots.specs.Codes.{codes, decoded}
 use Rattle.slots.proofs.Decision.{NoneOf, at-keys, in-range}
 use Rattle.rules.specs.declared.Limits.{Limits}
 use Rattle.rules.specs.Rules.{fitBy, goodBy}
-use Rattle.rules.proofs.Arms.{and-first, and-second, or-first, or-second}
+use Rattle.rules.proofs.Arms.{and-first, and-second}
 use Rattle.rules.proofs.slot_good.Statement.{statement}
 use Rattle.rules.proofs.slot_good.Tie as tie
 

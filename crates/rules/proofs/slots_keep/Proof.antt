@@ -1,16 +1,12 @@
 -- `rules::slots_keep` meets its contract. The loop's invariant: all words keep the rule just where all that are left do.
 -- Assumes nothing.
-use mathlib.Core.Path.{_≡_, sym, ap, ap₂, _∙_}
-use mathlib.Core.Bool.{Bool, true, _&&_}
-use Prim.Native.Nat.{ℕ, suc, _+_, _-_, _/_, _%_, _≤_, _<_}
+use mathlib.Core.Path.{_≡_, ap, _∙_}
+use Prim.Native.Nat.{_-_, _≤_}
 use native.Mathlib.Nat.{sub-zero}
-use native.Mathlib.Numerals.{add-one}
-use native.Mathlib.Omega.{arith}
 use borrow.Author.Needs.{needs}
 use borrow.Author.Tests.{not-true, not-false}
-use Rattle.definitions.specs.Slots.{Slot, unused}
 use Rattle.definitions.specs.Refusals.{every}
-use Rattle.slots.specs.Codes.{decoded, unpacked, wordsFrom}
+use Rattle.slots.specs.Codes.{unpacked, wordsFrom}
 use Rattle.rules.specs.Rules.{asked}
 use Rattle.rules.proofs.Every.{turn, none-left, done}
 use Rattle.rules.proofs.slots_keep.Statement.{statement}
