@@ -9,13 +9,13 @@ use native.Mathlib.Omega.{arith}
 use lib.Dec.{T, eqb, eqb→eq, leb→le, lit<}
 use lib.ListN.{length, getD, take, drop, List·getD-append, drop-of-length-le}
 use borrow.Author.Tests.{ne-eqb, eqb-true, eqb-false}
-use Rattle.definitions.specs.Lists.{total, gather, any, all}
+use Rattle.definitions.specs.Lists.{total, gather, always, all}
 use Rattle.definitions.specs.Areas.{Words, N, Arena, types, constants, overrides, globals, expressions, Areas, areasOf, Elem, at, numbered, words, size, word, pool, recordsOf, lengthOf, allWords, widths, limits, mentionCount, mentionWord}
 use Rattle.definitions.specs.Slots.{Slot, unused, free, below, must, may, start, count, layout}
 use Rattle.definitions.specs.References.{hasRun, span, run}
 use Rattle.definitions.specs.Roots.{mention}
 use Rattle.definitions.specs.Refusals.{every, held, heldAt, inside as test, runsBefore, shaped}
-use Rattle.definitions.specs.Numbering.{rank, place, mapUpTo, isKept, mapAfter}
+use Rattle.definitions.specs.Numbering.{rank, newHandle, mapUpTo, isKept, mapAfter}
 use Rattle.definitions.specs.Records.{startAfter, adjusted, adjustedFrom, recordAfter, recordsUpTo, runsUpTo, mentionAfter, mentionsUpTo, keptAreas, padded, areasAfter}
 use Rattle.definitions.specs.Outcome.{Maps, mapOf, mapsAfter}
 use Rattle.definitions.specs.MapEntries.{lookup}
@@ -23,7 +23,7 @@ use Rattle.definitions.proofs.Least.{and-left, and-right, Within}
 use Rattle.definitions.proofs.Accepted.{Sound, size-few}
 use Rattle.definitions.proofs.Kept.{SlotHolds, EachSlot, Inside, inside-lt, slots-inside}
 use Rattle.definitions.proofs.ListLaws.{total-any, total-mono, total-cong, total-scale, length-gather, gather-word}
-use Rattle.definitions.proofs.Places.{place-dropped, rank-le}
+use Rattle.definitions.proofs.Places.{new-dropped, rank-le}
 use Rattle.definitions.proofs.Counts.{map-length}
 use Rattle.definitions.proofs.Reading.{run-eq, no-span, shaped-slot, length-layout, start-slot, run-wide}
 use Rattle.slots.proofs.Laws.{span-in}
@@ -45,12 +45,12 @@ total-same p r f g (suc n) e q =
     rw (i, e n (le-refl (suc n)), q n (le-refl (suc n)))
 
 -- the map of the first n numbers has the place of each
-map-at : (p : ℕ → Bool) (n h : ℕ) → h < n → getD (mapUpTo p n) h N ≡ place p h
+map-at : (p : ℕ → Bool) (n h : ℕ) → h < n → getD (mapUpTo p n) h N ≡ newHandle p h
 unfolding mapUpTo
 map-at p n h l =
-    let one : ℕ → Words = λ i. place p i ∷ [] in
-    let e : total any (λ i. length (one i)) h ≡ h = sym (length-gather any one h) ∙ map-length p h in
-    ap (λ k. getD (gather any one n) k N) (sym (add-zero h) ∙ ap (λ k. k + 0) (sym e)) ∙ gather-word any one h n 0 N tt l (lit< tt)
+    let one : ℕ → Words = λ i. newHandle p i ∷ [] in
+    let e : total always (λ i. length (one i)) h ≡ h = sym (length-gather always one h) ∙ map-length p h in
+    ap (λ k. getD (gather always one n) k N) (sym (add-zero h) ∙ ap (λ k. k + 0) (sym e)) ∙ gather-word always one h n 0 N tt l (lit< tt)
 
 module _ (s : Areas) (m : List Elem) (p : Maps) where
   -- the maps after the pass
@@ -66,7 +66,7 @@ module _ (s : Areas) (m : List Elem) (p : Maps) where
   map-is expressions = refl
 
   -- a map has the new handle or N at each old record
-  pub lookup-after : (a : Arena) (h : ℕ) → h < size s a → lookup (mapOf maps a) h ≡ place (isKept m a) h
+  pub lookup-after : (a : Arena) (h : ℕ) → h < size s a → lookup (mapOf maps a) h ≡ newHandle (isKept m a) h
   unfolding lookup mapAfter
   lookup-after a h l =
       ap (λ w. getD w h N) (map-is a)
@@ -76,7 +76,7 @@ module _ (s : Areas) (m : List Elem) (p : Maps) where
   module _ (c : Sound s) where
     -- what a map keeps is what is kept
     pub kept-after : (a : Arena) (h : ℕ) → h < size s a → keptBy (mapOf maps a) h ≡ isKept m a h
-    unfolding keptBy place
+    unfolding keptBy newHandle
     kept-after a h l = ap (λ w. not (eqb w N)) (lookup-after a h l) ∙ go (isKept m a h)
       where
         go : (b : Bool) → not (eqb (cond b (rank (isKept m a) h) N) N) ≡ b
@@ -95,7 +95,7 @@ module _ (s : Areas) (m : List Elem) (p : Maps) where
 
     no-runs : (a : Arena) → ((h : ℕ) → span s a h ≡ 0) → runsBefore s a (size s a) < N
     unfolding runsBefore
-    no-runs a e = omega (arith, total-cong any (span s a) (λ _. 0) (size s a) (λ h l t. e h) ∙ total-scale any 0 (size s a) ∙ mul-zero _)
+    no-runs a e = omega (arith, total-cong always (span s a) (λ _. 0) (size s a) (λ h l t. e h) ∙ total-scale always 0 (size s a) ∙ mul-zero _)
 
     runs-few : (a : Arena) → runsBefore s a (size s a) < N
     unfolding recordsOf lengthOf widths limits allWords pool span hasRun
@@ -110,7 +110,7 @@ module _ (s : Areas) (m : List Elem) (p : Maps) where
     unfolding startBy startAfter runsBefore
     start-is a h l =
         let few : total (isKept m a) (span s a) h ≤ N =
-        omega (arith, total-any (isKept m a) (span s a) h, total-mono any (span s a) (size s a) h l, runs-few a) in
+        omega (arith, total-any (isKept m a) (span s a) h, total-mono always (span s a) (size s a) h l, runs-few a) in
         ap (λ n. min n N) (total-same _ _ _ _ h (λ i k. kept-after a i (le-trans k l)) (λ i k. span-is a i)) ∙ min-eq-left few
 
     -- ---- the pools
@@ -131,18 +131,18 @@ module _ (s : Areas) (m : List Elem) (p : Maps) where
         go false e = rw (no-span s a h e)
 
     -- each of its handles is inside
-    map-places : (a : Arena) (ws : Words) → T (all (λ w. test s (at a w)) ws) → map (lookup (mapOf maps a)) ws ≡ map (place (isKept m a)) ws
+    map-places : (a : Arena) (ws : Words) → T (all (λ w. test s (at a w)) ws) → map (lookup (mapOf maps a)) ws ≡ map (newHandle (isKept m a)) ws
     unfolding all
     map-places a [] t = refl
     map-places a (w ∷ ws) t =
         ap₂ (λ x r. x ∷ r) (lookup-after a w (inside-lt s a w (and-left (test s (at a w)) (all (λ w. test s (at a w)) ws) t)))
         (map-places a ws (and-right (test s (at a w)) (all (λ w. test s (at a w)) ws) t))
 
-    run-after : (a : Arena) (h : ℕ) → h < size s a → runBy (mapOf maps a) a (words s a) (pool s a) h ≡ map (place (isKept m a)) (run s a h)
+    run-after : (a : Arena) (h : ℕ) → h < size s a → runBy (mapOf maps a) a (words s a) (pool s a) h ≡ map (newHandle (isKept m a)) (run s a h)
     unfolding runBy runsBefore heldAt
     run-after a h l =
         ap₂ (λ n k. map (lookup (mapOf maps a)) (take n (drop k (pool s a)))) (span-is a h)
-        (total-same any any _ _ h (λ i k. refl) (λ i k. span-is a i))
+        (total-same always always _ _ h (λ i k. refl) (λ i k. span-is a i))
         ∙ ap (map (lookup (mapOf maps a))) (sym (run-is a h l))
         ∙ map-places a (run s a h) (and-right (every (held s) (word s a h) 0 (layout s a h)) (all (λ w. test s (at a w)) (run s a h)) (c .holds a h l))
 
@@ -170,25 +170,22 @@ module _ (s : Areas) (m : List Elem) (p : Maps) where
     mentions-after =
         let n : length (s .mentions) % 2 ≡ 0 = eqb→eq (length (s .mentions) % 2) 0 (c .whole 7 (lit< tt)) in
         let q : length (s .mentions) ≤ length (s .mentions) / 2 * 2 = omega (arith, div-add-mod' (length (s .mentions)) 2) in
-        ap₂ _++_ (gather-same any any _ _ (mentionCount s) (λ h l. refl) mention-after) (drop-of-length-le (s .mentions) q) ∙ append-nil _
+        ap₂ _++_ (gather-same always always _ _ (mentionCount s) (λ h l. refl) mention-after) (drop-of-length-le (s .mentions) q) ∙ append-nil _
 
     -- ---- the arenas
 
     module _ (inside : Within m (Inside s)) where
-      none-after : (a : Arena) → place (isKept m a) N ≡ N
-      none-after a = place-dropped m a N (λ i. omega (arith, inside-lt s a N (inside (at a N) i), size-few s (c .few) a))
-
       slot-after : (b : ℕ) (l : Slot) (w : ℕ) → SlotHolds (Inside s) l w → adjustedBy maps b l w ≡ adjusted m b l w
       unfolding adjustedBy adjusted
       slot-after b unused w i = refl
       slot-after b free w i = refl
       slot-after b (below n) w i = refl
       slot-after b (must a) w i = lookup-after a w (inside-lt s a w i)
-      slot-after b (may a) w i = go (eqb w N) (eqb-true w N) (eqb-false w N)
+      slot-after b (may a) w i = go (eqb w N) (eqb-false w N)
         where
-          go : (t : Bool) → (t ≡ true → w ≡ N) → (t ≡ false → w ≡ N → ⊥) → cond t N (lookup (mapOf maps a) w) ≡ place (isKept m a) w
-          go true e n = sym (ap (place (isKept m a)) (e refl) ∙ none-after a)
-          go false e n = lookup-after a w (inside-lt s a w (i (n refl)))
+          go : (t : Bool) → (t ≡ false → w ≡ N → ⊥) → cond t N (lookup (mapOf maps a) w) ≡ cond t N (newHandle (isKept m a) w)
+          go true n = refl
+          go false n = lookup-after a w (inside-lt s a w (i (n refl)))
       slot-after b start w i = refl
       slot-after b count w i = refl
 

@@ -9,7 +9,7 @@ use native.Mathlib.Numerals.{add-one}
 use native.Mathlib.Omega.{arith}
 use lib.ListN.{length, getD, take, drop, set, replicate, length-append, length-set, length-map, length-drop}
 use lib.Seq.{sets, getD-drop, getD-append-add, drop-cons, set-at, take-nil, drop-nil, length-take-le}
-use Rattle.definitions.specs.Lists.{total, gather, any}
+use Rattle.definitions.specs.Lists.{total, gather, always}
 use Rattle.definitions.specs.Areas.{Words, N, Arena, numbered, width, wordOf}
 use Rattle.definitions.specs.Slots.{Slot, slots}
 use Rattle.definitions.specs.Records.{padded}
@@ -125,7 +125,7 @@ module _ (own : Words) (a : Arena) (ws old : Words) (w : ℕ) where
   -- h records are read and the next is at `at`; its run begins at `from`
   pub record Packing (new : Words) (from to at h : ℕ) : Type 0 where
     pub at-is : at ≡ h * w
-    pub from-is : from ≡ min (total any (spanOf a ws) h) (length old)
+    pub from-is : from ≡ min (total always (spanOf a ws) h) (length old)
     pub part : Partly (keptBy own) (runBy own a ws old) old new from to h
 
   pub packing : Packing old 0 0 0 0
@@ -143,15 +143,15 @@ module _ (own : Words) (a : Arena) (ws old : Words) (w : ℕ) where
       span-is =
           held ∙ ap₂ min (counted ∙ ap (spanIn a) (ap (wordsFrom ws) (r .at-is) ∙ ap (λ n. wordsFrom ws (h * n)) wide)) (sym (length-drop from old))
 
-      from-next : from + span ≡ min (total any (spanOf a ws) (h + 1)) (length old)
-      from-next = omega (arith, span-is, length-drop from old, r .from-is, total-kept any (spanOf a ws) h refl)
+      from-next : from + span ≡ min (total always (spanOf a ws) (h + 1)) (length old)
+      from-next = omega (arith, span-is, length-drop from old, r .from-is, total-kept always (spanOf a ws) h refl)
 
       run-is : map (lookup own) (take span (drop from new)) ≡ runBy own a ws old h
       unfolding runBy
       run-is =
           ap (λ l. map (lookup own) (take span l)) (r .part .rest) ∙ ap (λ n. map (lookup own) (take n (drop from old))) span-is
           ∙ ap (map (lookup own)) (take-held (spanOf a ws h) (drop from old))
-          ∙ ap (λ l. map (lookup own) (take (spanOf a ws h) l)) (ap (λ n. drop n old) (r .from-is) ∙ drop-held (total any (spanOf a ws) h) old)
+          ∙ ap (λ l. map (lookup own) (take (spanOf a ws h) l)) (ap (λ n. drop n old) (r .from-is) ∙ drop-held (total always (spanOf a ws) h) old)
 
       length-run : length (runBy own a ws old h) ≡ span
       length-run =
@@ -200,12 +200,12 @@ module _ (p : Maps) (old : Words) where
     pub same : length new ≡ length old
     pub even : at / 2 * 2 ≡ at
     pub high : at ≤ length old
-    pub new-is : new ≡ gather any (mentionBy p old) (at / 2) ++ drop at old
+    pub new-is : new ≡ gather always (mentionBy p old) (at / 2) ++ drop at old
 
-  length-mentions : (h : ℕ) → length (gather any (mentionBy p old) h) ≡ h * 2
+  length-mentions : (h : ℕ) → length (gather always (mentionBy p old) h) ≡ h * 2
   unfolding gather mentionBy
   length-mentions zero = refl
-  length-mentions (suc h) = length-append (gather any (mentionBy p old) h) (mentionBy p old h) ∙ ap (λ n. n + 2) (length-mentions h) ∙ sym (suc-mul h 2)
+  length-mentions (suc h) = length-append (gather always (mentionBy p old) h) (mentionBy p old h) ∙ ap (λ n. n + 2) (length-mentions h) ∙ sym (suc-mul h 2)
 
   pub renaming : Renaming old 0
   unfolding gather
@@ -213,7 +213,7 @@ module _ (p : Maps) (old : Words) where
 
   module _ (new : Words) (at : ℕ) (l : 1 < length old - at) (r : Renaming new at) where
     abbrev first : Words
-    first = gather any (mentionBy p old) (at / 2)
+    first = gather always (mentionBy p old) (at / 2)
 
     length-first : length first ≡ at
     length-first = length-mentions (at / 2) ∙ r .even
@@ -253,11 +253,11 @@ module _ (p : Maps) (old : Words) where
           high = omega arith;
           new-is =
               stored v ∙ ap (λ x. first ++ getD old at 0 ∷ x ∷ drop (at + 2) old) q ∙ ap (λ m. first ++ (m ++ drop (at + 2) old)) (sym mention-is)
-              ∙ sym (append-assoc first (mentionBy p old (at / 2)) (drop (at + 2) old)) ∙ ap (λ h. gather any (mentionBy p old) h ++ drop (at + 2) old) (sym n);
+              ∙ sym (append-assoc first (mentionBy p old (at / 2)) (drop (at + 2) old)) ∙ ap (λ h. gather always (mentionBy p old) h ++ drop (at + 2) old) (sym n);
         }
 
   pub renamed : (new : Words) (at : ℕ) → length old - at ≤ 1 → Renaming new at → new ≡ mentionsBy p old
   unfolding mentionsBy
   renamed new at l r =
       let n : at / 2 ≡ length old / 2 = omega (arith, r .even, r .high) in
-      r .new-is ∙ ap₂ (λ h k. gather any (mentionBy p old) h ++ drop k old) n (sym (r .even) ∙ ap (λ h. h * 2) n)
+      r .new-is ∙ ap₂ (λ h k. gather always (mentionBy p old) h ++ drop k old) n (sym (r .even) ∙ ap (λ h. h * 2) n)

@@ -5,7 +5,7 @@ use mathlib.Core.List.{List, [], _∷_, _++_, map}
 use Prim.Native.Nat.{ℕ, suc, _+_, _*_, _/_, min}
 use lib.ListN.{length, getD, take, drop}
 use lib.Dec.{eqb}
-use Rattle.definitions.specs.Lists.{total, gather, any}
+use Rattle.definitions.specs.Lists.{total, gather, always}
 use Rattle.definitions.specs.Areas.{Words, N, Arena, numbered, width, wordOf, mentionWidth}
 use Rattle.definitions.specs.Slots.{Slot, unused, free, below, must, may, start, count, slots}
 use Rattle.definitions.specs.Records.{padded}
@@ -66,7 +66,7 @@ arenaBy p a ws = padded ws (gather (keptBy (mapOf p a)) (recordBy p a ws) (recor
 
 -- the run of record h, adjusted: it begins where those before it end
 unfoldable pub runBy : Words → Arena → Words → Words → ℕ → Words
-runBy own a ws pool h = map (lookup own) (take (spanOf a ws h) (drop (total any (spanOf a ws) h) pool))
+runBy own a ws pool h = map (lookup own) (take (spanOf a ws h) (drop (total always (spanOf a ws) h) pool))
 
 -- the runs of an arena's kept records, adjusted, one after another
 abbrev pub runsBy : Words → Arena → Words → Words → Words
@@ -86,4 +86,4 @@ mentionBy p ws h = mentionAt ws h 0 ∷ lookup (mapOf p (numbered (mentionAt ws 
 
 -- the mentions after, adjusted in place; a word past the last mention stays
 unfoldable pub mentionsBy : Maps → Words → Words
-mentionsBy p ws = gather any (mentionBy p ws) (length ws / mentionWidth) ++ drop (length ws / mentionWidth * mentionWidth) ws
+mentionsBy p ws = gather always (mentionBy p ws) (length ws / mentionWidth) ++ drop (length ws / mentionWidth * mentionWidth) ws

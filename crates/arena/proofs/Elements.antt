@@ -8,9 +8,9 @@ use native.Mathlib.Decide.{decLt}
 use native.Mathlib.Omega.{arith}
 use lib.Dec.{T, lit<}
 use borrow.Author.Tests.{lt-ltb}
-use Rattle.definitions.specs.Lists.{any, total}
-use Rattle.definitions.specs.Areas.{Arena, types, constants, overrides, globals, expressions, number, numbered, Elem, at, same}
-use Rattle.definitions.proofs.Least.{same-eq, same-refl}
+use Rattle.definitions.specs.Lists.{always, total}
+use Rattle.definitions.specs.Areas.{Arena, types, constants, overrides, globals, expressions, areaNumber, numbered, Elem, at, same}
+use Rattle.definitions.proofs.Least.{numbered-number, same-eq, same-refl}
 use Rattle.definitions.proofs.ListLaws.{total-share}
 use Rattle.arena.specs.HandleSet.{bases, records, base, bit, member, room, Inserted}
 
@@ -20,18 +20,10 @@ Below n (at a h) = h < n a
 
 -- the sum of the counts before an arena, by its number
 abbrev start : (Arena → ℕ) → ℕ → ℕ
-start n k = total any (λ i. n (numbered i)) k
+start n k = total always (λ i. n (numbered i)) k
 
-numbered-number : (a : Arena) → numbered (number a) ≡ a
-unfolding numbered number
-numbered-number types = refl
-numbered-number constants = refl
-numbered-number overrides = refl
-numbered-number globals = refl
-numbered-number expressions = refl
-
-number-lt : (a : Arena) → number a < 5
-unfolding number
+number-lt : (a : Arena) → areaNumber a < 5
+unfolding areaNumber
 number-lt types = lit< tt
 number-lt constants = lit< tt
 number-lt overrides = lit< tt
@@ -39,15 +31,15 @@ number-lt globals = lit< tt
 number-lt expressions = lit< tt
 
 -- the bits of an arena end before those of a later one begin
-share : (n : Arena → ℕ) (a : Arena) (k : ℕ) → number a < k → start n (number a) + n a ≤ start n k
+share : (n : Arena → ℕ) (a : Arena) (k : ℕ) → areaNumber a < k → start n (areaNumber a) + n a ≤ start n k
 share n a k l =
-    subst (λ (b : Arena). start n (number a) + n b ≤ start n k) (numbered-number a)
-    (total-share any (λ i. n (numbered i)) (number a) k tt l)
+    subst (λ (b : Arena). start n (areaNumber a) + n b ≤ start n k) (numbered-number a)
+    (total-share always (λ i. n (numbered i)) (areaNumber a) k tt l)
 
 module _ (n : Arena → ℕ) (small : records n < 4294967296) where
   -- no sum is capped
-  base-start : (a : Arena) → base (bases n) a ≡ start n (number a)
-  unfolding total numbered number
+  base-start : (a : Arena) → base (bases n) a ≡ start n (areaNumber a)
+  unfolding total numbered areaNumber
   base-start types = refl
   base-start constants = omega arith
   base-start overrides = omega arith
@@ -69,12 +61,12 @@ module _ (n : Arena → ℕ) (small : records n < 4294967296) where
   -- no two elements share a bit
   pub bit-injective : (x y : Elem) → Below n x → Below n y → bit (bases n) x ≡ bit (bases n) y → x ≡ y
   bit-injective (at a h) (at b k) l m e =
-      elim (decLt (number a) (number b)) [
-        | yes p ↦ absurd (omega (arith, base-start a, base-start b, share n a (number b) p))
-        | no p ↦ elim (decLt (number b) (number a)) [
-          | yes q ↦ absurd (omega (arith, base-start a, base-start b, share n b (number a) q))
+      elim (decLt (areaNumber a) (areaNumber b)) [
+        | yes p ↦ absurd (omega (arith, base-start a, base-start b, share n a (areaNumber b) p))
+        | no p ↦ elim (decLt (areaNumber b) (areaNumber a)) [
+          | yes q ↦ absurd (omega (arith, base-start a, base-start b, share n b (areaNumber a) q))
           | no q ↦
-              let i : number a ≡ number b = omega arith in
+              let i : areaNumber a ≡ areaNumber b = omega arith in
               let j : h ≡ k = omega (arith, base-start a, base-start b, ap (start n) i) in
               ap₂ at (sym (numbered-number a) ∙ ap numbered i ∙ numbered-number b) j
         ]

@@ -17,7 +17,7 @@ boundary-once a b s s′ p p′ e = (words, ap (λ o. o .areas) e, ap (λ o. o .
         record {
           number = ap (λ o. o .number) e i;
           area = ap (λ o. o .area) e i;
-          «record» = ap (λ o. o .record′) e i;
+          «record» = ap (λ o. o .recordNumber) e i;
           types = ap (λ c. getD c 0 0) l i;
           constants = ap (λ c. getD c 1 0) l i;
           overrides = ap (λ c. getD c 2 0) l i;

@@ -62,7 +62,7 @@ outcomeIn r s p =
     record {
       number = r .number;
       area = r .area;
-      record′ = r .record;
+      recordNumber = r .record;
       counts = r .types ∷ r .constants ∷ r .overrides ∷ r .globals ∷ r .expressions ∷ r .members ∷ r .components ∷ [];
       areas = s;
       maps = p;

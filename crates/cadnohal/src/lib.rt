@@ -7,7 +7,7 @@ ghost use Rattle.definitions.specs.Refusals.{check};
 ghost use Rattle.definitions.specs.Outcome.{outcome};
 ghost use Rattle.definitions.specs.MapEntries.{lookup, adjust, range};
 ghost use Rattle.adjust.specs.Rewrite.{mapsOf};
-ghost use Rattle.faults.specs.Faults.{verdictOf};
+ghost use Rattle.faults.specs.Checking.{verdictOf};
 ghost use Rattle.compact.specs.Answer.{keepOf};
 ghost use Rattle.cadnohal.specs.Boundary.{keepWord, placed, answerOf, answerTo, outcomeIn, adjustedIn, rangedIn};
 use arena::N;

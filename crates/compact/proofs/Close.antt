@@ -14,7 +14,7 @@ use Rattle.definitions.specs.Areas.{Words, Areas, Arena, types, constants, over
 use Rattle.definitions.specs.References.{span}
 use Rattle.definitions.specs.Sweep.{kept}
 use Rattle.definitions.specs.Refusals.{runsBefore, check, check3, passes}
-use Rattle.definitions.specs.Numbering.{rank, place, mapUpTo, isKept, mapAfter}
+use Rattle.definitions.specs.Numbering.{rank, newHandle, mapUpTo, isKept, mapAfter}
 use Rattle.definitions.specs.Records.{startAfter, runsUpTo, keptAreas, areasAfter}
 use Rattle.definitions.specs.Outcome.{Maps, mapOf, lengths, keptCounts, mapsAfter, outcomeOf, outcome}
 use Rattle.definitions.proofs.Accepted.{Sound, facts, parts, areas-all}
@@ -31,7 +31,7 @@ use Rattle.arena.specs.Marks.{Marks}
 use Rattle.handle_map.specs.FromSet.{inSet, mapped}
 use Rattle.adjust.specs.Rewrite.{mapsOf, arenaBy, runsBy, poolBy, mentionsBy}
 use Rattle.adjust.proofs.Laws.{runs-after, areas-after}
-use Rattle.faults.specs.Faults.{verdictOf}
+use Rattle.faults.specs.Checking.{verdictOf}
 use Rattle.faults.specs.declared.Verdict.{Verdict}
 use Rattle.faults.specs.declared.Fault.{Fault}
 use Rattle.faults.specs.declared.Verdict.the-variants as verdict
@@ -47,7 +47,7 @@ module _ (p q : ℕ → Bool) where
   rank-same (suc n) e = rw (e n (le-refl (suc n)), rank-same n (λ h l. e h (le-trans l (omega arith))))
 
   map-same : (n : ℕ) → ((h : ℕ) → h < n → p h ≡ q h) → mapUpTo p n ≡ mapUpTo q n
-  unfolding mapUpTo gather place
+  unfolding mapUpTo gather newHandle
   map-same zero e = refl
   map-same (suc n) e =
       rw (e n (le-refl (suc n)), rank-same n (λ h l. e h (le-trans l (omega arith))), map-same n (λ h l. e h (le-trans l (omega arith))))
@@ -262,7 +262,7 @@ module _ (s : Areas) (p : Maps) (keep : Bool) (t : T (passes (check s (lengths p
           record {
             number = 0;
             area = 0;
-            record′ = 0;
+            recordNumber = 0;
             counts = g0 .0 i ∷ g1 .0 i ∷ g2 .0 i ∷ g3 .0 i ∷ g4 .0 i ∷ n i ∷ w i ∷ [];
             areas = a i;
             maps = maps-are i;
@@ -323,7 +323,7 @@ module _ (s : Areas) (p : Maps) (keep : Bool) (t : T (passes (check s (lengths p
             record {
               number = 0;
               area = 0;
-              record′ = 0;
+              recordNumber = 0;
               counts = g0 .0 i ∷ g1 .0 i ∷ g2 .0 i ∷ g3 .0 i ∷ g4 .0 i ∷ members-due h5 i ∷ components-due h6 i ∷ [];
               areas = areas-due i;
               maps = maps-are i;

@@ -33,7 +33,7 @@ answer-once (Refused f) (Kept m) s s′ p p′ v e = let z : _≡_ {A = Bool} tr
     true-false : _≡_ {A = Bool} true false → ⊥
     true-false z = let q : T false = subst T z tt in q
 answer-once (Refused f) (Refused g) s s′ p p′ v e = λ i.
-    Refused (record { number = ap (λ o. o .number) e i; area = ap (λ o. o .area) e i; «record» = ap (λ o. o .record′) e i })
+    Refused (record { number = ap (λ o. o .number) e i; area = ap (λ o. o .area) e i; «record» = ap (λ o. o .recordNumber) e i })
 
 -- no second outcome satisfies the contract: neither another answer nor another word of any area or map
 pub compact-once : (s : Areas) (p : Maps) (keep : Bool) (r q : Compacted) (s′ s″ : Areas) (p′ p″ : Maps)

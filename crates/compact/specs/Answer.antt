@@ -47,9 +47,9 @@ isAccepted (Refused f) = false
 
 -- the outcome that an answer, the areas and the maps after it make
 abbrev pub outcomeWith : Compacted → Areas → Maps → Outcome
-outcomeWith (Kept n) s p = record { number = 0; area = 0; record′ = 0; counts = countsOf n; areas = s; maps = p }
+outcomeWith (Kept n) s p = record { number = 0; area = 0; recordNumber = 0; counts = countsOf n; areas = s; maps = p }
 outcomeWith (Refused f) s p =
-    record { number = f .number; area = f .area; record′ = f .record; counts = 0 ∷ 0 ∷ 0 ∷ 0 ∷ 0 ∷ 0 ∷ 0 ∷ []; areas = s; maps = p }
+    record { number = f .number; area = f .area; recordNumber = f .record; counts = 0 ∷ 0 ∷ 0 ∷ 0 ∷ 0 ∷ 0 ∷ 0 ∷ []; areas = s; maps = p }
 
 -- all that is promised: the answer tells whether the check passes, and with every lent word it is the outcome of document 01
 pub record Compacts (s : Areas) (p : Maps) (keep : Bool) (r : Compacted) (s′ : Areas) (p′ : Maps) : Type 0 where

@@ -7,7 +7,7 @@ use Prim.Native.Nat.{ℕ, zero, suc, _+_, _%_, _≤_, _<_, suc-le-suc}
 use native.Mathlib.Nat.{add-zero, zero-add, suc-add, add-suc, zero-lt-suc, le-trans, not-suc-le-zero, le-of-suc-le-suc}
 use lib.Dec.{T, eqb, ltb, leb, leb→le, lit<, lit≤}
 use lib.ListN.{length, getD}
-use Rattle.definitions.specs.Areas.{Areas, Arena, N, allWords, at, constants, expressions, globals, lengthOf, recordsOf, limits, mentionCount, mentionWord, number, overrides, pool, size, types, width, widths, words}
+use Rattle.definitions.specs.Areas.{Areas, Arena, N, allWords, at, constants, expressions, globals, lengthOf, recordsOf, limits, mentionCount, mentionWord, areaNumber, overrides, pool, size, types, width, widths, words}
 use Rattle.definitions.specs.Roots.{mention}
 use Rattle.definitions.specs.Order.{wellOrdered}
 use Rattle.definitions.specs.Refusals.{Verdict, accepted, check, check1, check2, check3, check4, check5, check6, check7, firstOf, heldAt, inside, ofModule, passes, poolUsed, refused, runsBefore, scan, scanAreas, scanMentions, scanRecords, shapedAt}
@@ -70,12 +70,12 @@ all-areas nr ok n = all-scan ok (λ a. refused nr a 0) n
 records-all : (nr : ℕ) (ok : Areas → Arena → ℕ → Bool) (s : Areas) (a : Arena) → T (passes (scanRecords nr ok s a))
     → (h : ℕ) → h < size s a → T (ok s a h)
 unfolding scanRecords passes
-records-all nr ok s a = scan-all (ok s a) (refused nr (number a)) (λ i t. t) (size s a)
+records-all nr ok s a = scan-all (ok s a) (refused nr (areaNumber a)) (λ i t. t) (size s a)
 
 all-records : (nr : ℕ) (ok : Areas → Arena → ℕ → Bool) (s : Areas) (a : Arena) → ((h : ℕ) → h < size s a → T (ok s a h))
     → T (passes (scanRecords nr ok s a))
 unfolding scanRecords
-all-records nr ok s a = all-scan (ok s a) (refused nr (number a)) (size s a)
+all-records nr ok s a = all-scan (ok s a) (refused nr (areaNumber a)) (size s a)
 
 mentions-all : (nr : ℕ) (ok : ℕ → Bool) (s : Areas) → T (passes (scanMentions nr ok s)) → (h : ℕ) → h < mentionCount s → T (ok h)
 unfolding scanMentions passes

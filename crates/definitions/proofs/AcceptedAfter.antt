@@ -11,23 +11,23 @@ use native.Mathlib.Omega.{arith}
 use lib.Dec.{T, eqb, leb, ltb, eqb→eq, leb→le, eqb-refl, le→leb, lt→ltb, ltb→lt, lit<}
 use borrow.Author.Tests.{eqb-false, eqb-true, eq-eqb, ne-eqb}
 use lib.ListN.{length, getD}
-use Rattle.definitions.specs.Lists.{all, any, gather, total}
+use Rattle.definitions.specs.Lists.{all, always, gather, total}
 use Rattle.definitions.specs.Areas.{recordsOf, Areas, Arena, Elem, N, Words, allWords, at, constants, expressions, globals, lengthOf, limits, mentionCount, mentionWord, numbered, overrides, pool, size, types, width, widths, word, words}
 use Rattle.definitions.specs.Slots.{body, typeBody, exprBody, Slot, below, count, fill, free, layout, may, must, slots, start, typeSlots, unused}
 use Rattle.definitions.specs.References.{hasRun, namedFrom, references, run, span}
 use Rattle.definitions.specs.Roots.{mention}
-use Rattle.definitions.specs.Order.{behind, later, maxDep, onePast, sizedBy, wellOrdered, withBehind}
+use Rattle.definitions.specs.Order.{behind, later, pastDep, onePast, sizedBy, wellOrdered, withBehind}
 use Rattle.definitions.specs.Sweep.{has}
 use Rattle.definitions.specs.Refusals.{every, held, heldAt, inside as test, ofModule, runsBefore, shaped, shapedAt}
-use Rattle.definitions.specs.Numbering.{isKept, moved, place, rank}
+use Rattle.definitions.specs.Numbering.{isKept, moved, newHandle, rank}
 use Rattle.definitions.specs.Records.{adjusted, keptAreas, mentionAfter, mentionsUpTo, runsUpTo, startAfter}
 use Rattle.definitions.proofs.ListLaws.{total-share, length-gather, gather-word, total-cong, total-scale, total-any}
 use Rattle.definitions.proofs.Least.{_∈_, and-left, and-right, Within, Closed, here, there, cons-cases, none-in, append-left, append-right, reached, reached-within}
 use Rattle.definitions.proofs.Accepted.{Sound, Accepted}
 use Rattle.definitions.proofs.Kept.{OrderedOn, SlotHolds, EachSlot, all-within, sized-past, Inside, inside-lt}
-use Rattle.definitions.proofs.Places.{place-kept, place-mono, rank-le, rank-mono, rank-below, no-gap}
+use Rattle.definitions.proofs.Places.{new-kept, new-mono, rank-le, rank-mono, rank-below, no-gap}
 use Rattle.definitions.proofs.Tandem.{past-mono}
-use Rattle.definitions.proofs.Reading.{after, length-after, size-after, word-after, layout-after, length-layout, span-after, pool-types, pool-expressions, start-total, kind-expression, kind-type, within-slots, references-after, moved-inside, place-few, place-none, map-append}
+use Rattle.definitions.proofs.Reading.{after, length-after, size-after, word-after, layout-after, length-layout, span-after, pool-types, pool-expressions, start-total, kind-expression, kind-type, within-slots, references-after, moved-inside, new-few, map-append}
 
 pub both : (p q : Bool) → T p → T q → T (p && q)
 both true q t u = u
@@ -90,7 +90,7 @@ module _ (s : Areas) (m : List Elem) (c : Sound s) (inside : Within m (Inside s)
   start-eq a (suc h) l = go (has m (at a h)) (λ t. span-after s m a h t l) (start-eq a h (le-trans (omega arith) l))
     where
       go : (b : Bool) → (T b → span (after s m) a (rank (isKept m a) h) ≡ span s a h) → runsBefore (after s m) a (rank (isKept m a) h) ≡ startAfter s m a h
-          → total any (span (after s m) a) (cond b (rank (isKept m a) h + 1) (rank (isKept m a) h)) ≡ cond b (startAfter s m a h + span s a h) (startAfter s m a h)
+          → total always (span (after s m) a) (cond b (rank (isKept m a) h + 1) (rank (isKept m a) h)) ≡ cond b (startAfter s m a h + span s a h) (startAfter s m a h)
       go true e q = rw (add-one (rank (isKept m a) h)) (ap₂ _+_ q (e tt))
       go false e q = q
 
@@ -101,7 +101,7 @@ module _ (s : Areas) (m : List Elem) (c : Sound s) (inside : Within m (Inside s)
 
   runs-length : (a : Arena) → length (runsUpTo s m a (size s a)) ≡ startAfter s m a (size s a)
   unfolding runsUpTo
-  runs-length a = length-gather (isKept m a) (λ j. map (place (isKept m a)) (run s a j)) (size s a) ∙ start-total s m c a (size s a) (le-refl (size s a))
+  runs-length a = length-gather (isKept m a) (λ j. map (newHandle (isKept m a)) (run s a j)) (size s a) ∙ start-total s m c a (size s a) (le-refl (size s a))
 
   pool-length : (a : Arena) → length (pool (after s m) a) ≡ startAfter s m a (size s a)
   unfolding pool keptAreas span hasRun
@@ -159,7 +159,7 @@ module _ (s : Areas) (m : List Elem) (c : Sound s) (inside : Within m (Inside s)
   unfolding runsUpTo
   pool-used a e =
       let q : length (pool (after s m) a) ≡ startAfter s m a (size s a) =
-      ap length e ∙ length-gather (isKept m a) (λ j. map (place (isKept m a)) (run s a j)) (size s a) ∙ start-total s m c a (size s a) (le-refl (size s a)) in
+      ap length e ∙ length-gather (isKept m a) (λ j. map (newHandle (isKept m a)) (run s a j)) (size s a) ∙ start-total s m c a (size s a) (le-refl (size s a)) in
       rw (q, size-after s m a, start-eq a (size s a) (le-refl (size s a))) (eqb-refl (startAfter s m a (size s a)))
 
   -- ---- check 5
@@ -182,14 +182,14 @@ module _ (s : Areas) (m : List Elem) (c : Sound s) (inside : Within m (Inside s)
 
   pub moved-kept : (a : Arena) (h : ℕ) → at a h ∈ m → moved m (at a h) ≡ at a (rank (isKept m a) h)
   unfolding moved
-  moved-kept a h i = ap (at a) (place-kept m a h i)
+  moved-kept a h i = ap (at a) (new-kept m a h i)
 
   behind-after : (x : Elem) → x ∈ m → behind (after s m) (moved m x) ≡ map (moved m) (behind s x)
   unfolding behind moved
   behind-after (at types h) i = refl
-  behind-after (at constants h) i = rw (place-kept m constants h i) (references-after s m c inside closed constants h i)
-  behind-after (at overrides h) i = rw (place-kept m overrides h i) (references-after s m c inside closed overrides h i)
-  behind-after (at globals h) i = rw (place-kept m globals h i) (references-after s m c inside closed globals h i)
+  behind-after (at constants h) i = rw (new-kept m constants h i) (references-after s m c inside closed constants h i)
+  behind-after (at overrides h) i = rw (new-kept m overrides h i) (references-after s m c inside closed overrides h i)
+  behind-after (at globals h) i = rw (new-kept m globals h i) (references-after s m c inside closed globals h i)
   behind-after (at expressions h) i = refl
 
   touched-after : (xs : List Elem) → Within xs (λ x. x ∈ m) → withBehind (after s m) (map (moved m) xs) ≡ map (moved m) (withBehind s xs)
@@ -203,11 +203,11 @@ module _ (s : Areas) (m : List Elem) (c : Sound s) (inside : Within m (Inside s)
   reached-after a h i =
       ap (withBehind (after s m)) (references-after s m c inside closed a h i) ∙ touched-after (references s (at a h)) (λ y j. closed (at a h) y i j)
 
-  past-bound : (t : Areas) (n b : ℕ) → ((u : ℕ) → u ≤ n → sizedBy t u ≤ b) → maxDep t n ≤ b
-  unfolding maxDep
+  past-bound : (t : Areas) (n b : ℕ) → ((u : ℕ) → u ≤ n → sizedBy t u ≤ b) → pastDep t n ≤ b
+  unfolding pastDep
   past-bound t zero b f = f 0 (le-refl 0)
   past-bound t (suc n) b f =
-      let p : maxDep t n ≤ b = past-bound t n b (λ u l. f u (le-trans l (omega arith))) in
+      let p : pastDep t n ≤ b = past-bound t n b (λ u l. f u (le-trans l (omega arith))) in
       let q : sizedBy t (suc n) ≤ b = f (suc n) (le-refl (suc n)) in
       omega arith
 
@@ -223,17 +223,15 @@ module _ (s : Areas) (m : List Elem) (c : Sound s) (inside : Within m (Inside s)
   sized-layout u e =
       subst (λ k. below 4 ∷ below 4 ∷ fill 2 (getD typeSlots k []) ++ (free ∷ []) ≡ below 4 ∷ below 4 ∷ must types ∷ must overrides ∷ free ∷ []) (sym e) refl
 
-  past-init : (w : ℕ) → ((w ≡ N → ⊥) → at expressions w ∈ m) → onePast (place (isKept m expressions) w) ≤ rank (isKept m expressions) (onePast w)
-  unfolding onePast
-  past-init w p = go (eqb w N) refl
+  past-init : (b w : ℕ) → ((w ≡ N → ⊥) → at expressions w ∈ m) → onePast (adjusted m b (may expressions) w) ≤ rank (isKept m expressions) (onePast w)
+  unfolding onePast adjusted
+  past-init b w p = go (eqb w N) refl
     where
-      go : (b : Bool) → eqb w N ≡ b → cond (eqb (place (isKept m expressions) w) N) 0 (suc (place (isKept m expressions) w)) ≤ rank (isKept m expressions) (cond b 0 (suc w))
-      go true e =
-          let q : place (isKept m expressions) w ≡ N = ap (place (isKept m expressions)) (eqb-true w N e) ∙ place-none s m c inside closed expressions in
-          rw (eq-eqb (place (isKept m expressions) w) N q) zero-le
+      go : (d : Bool) → eqb w N ≡ d → onePast (cond d N (newHandle (isKept m expressions) w)) ≤ rank (isKept m expressions) (cond d 0 (suc w))
+      go true e = zero-le
       go false e =
           let i : at expressions w ∈ m = p (eqb-false w N e) in
-          rw (ne-eqb (place (isKept m expressions) w) N (place-few s m c inside closed expressions w i), place-kept m expressions w i)
+          rw (ne-eqb (newHandle (isKept m expressions) w) N (new-few s m c inside closed expressions w i), new-kept m expressions w i)
           (rank-below m expressions w (suc w) i (le-refl (suc w)))
 
   sized-after : (u : ℕ) → at types u ∈ m → u < size s types → sizedBy (after s m) (rank (isKept m types) u) ≤ rank (isKept m expressions) (sizedBy s u)
@@ -250,26 +248,27 @@ module _ (s : Areas) (m : List Elem) (c : Sound s) (inside : Within m (Inside s)
           let q = sized-layout u (e refl) in
           let io : at overrides o ∈ m = (subst (λ ls. EachSlot (λ x. x ∈ m) (word s types u) 0 ls) q (kept-slots types u i)) .1 .1 .1 .0 in
           let w3 : word (after s m) types (rank (isKept m types) u) 3 ≡ rank (isKept m overrides) o =
-          word-after s m types u 3 i l (lit< tt) ∙ ap (λ ls. adjusted m (startAfter s m types u) (getD ls 3 unused) o) q ∙ place-kept m overrides o io in
+          word-after s m types u 3 i l (lit< tt) ∙ ap (λ ls. adjusted m (startAfter s m types u) (getD ls 3 unused) o) q ∙ new-kept m overrides o io in
           let lo : o < size s overrides = inside-lt s overrides o (inside (at overrides o) io) in
-          let w2 : word (after s m) overrides (rank (isKept m overrides) o) 2 ≡ place (isKept m expressions) (word s overrides o 2) = word-after s m overrides o 2 io lo (lit< tt) in
-          rw (w3, w2) (past-init (word s overrides o 2) ((kept-slots overrides o io) .1 .1 .0))
+          let w2 : word (after s m) overrides (rank (isKept m overrides) o) 2 ≡ adjusted m (startAfter s m overrides o) (may expressions) (word s overrides o 2) =
+          word-after s m overrides o 2 io lo (lit< tt) in
+          rw (w3, w2) (past-init (startAfter s m overrides o) (word s overrides o 2) ((kept-slots overrides o io) .1 .1 .0))
       go false e = zero-le
 
-  past-after : (u : ℕ) → at types u ∈ m → maxDep (after s m) (rank (isKept m types) u) ≤ rank (isKept m expressions) (maxDep s u)
+  past-after : (u : ℕ) → at types u ∈ m → pastDep (after s m) (rank (isKept m types) u) ≤ rank (isKept m expressions) (pastDep s u)
   past-after u i =
-      past-bound (after s m) (rank (isKept m types) u) (rank (isKept m expressions) (maxDep s u))
+      past-bound (after s m) (rank (isKept m types) u) (rank (isKept m expressions) (pastDep s u))
       (λ r l.
       let q = no-gap m types (suc u) r (le-trans (suc-le-suc l) (rank-below m types u (suc u) i (le-refl (suc u)))) in
       let v : ℕ = q .from in
       let k : v < size s types = inside-lt s types v (inside (at types v) (q .from-kept)) in
-      subst (λ x. sizedBy (after s m) x ≤ rank (isKept m expressions) (maxDep s u)) (q .from-rank)
+      subst (λ x. sizedBy (after s m) x ≤ rank (isKept m expressions) (pastDep s u)) (q .from-rank)
       (le-trans (sized-after v (q .from-kept) k)
-      (rank-mono m expressions (sizedBy s v) (maxDep s u) (le-trans (sized-past s v) (past-mono s u v (le-of-suc-le-suc (q .from-lt)))))))
+      (rank-mono m expressions (sizedBy s v) (pastDep s u) (le-trans (sized-past s v) (past-mono s u v (le-of-suc-le-suc (q .from-lt)))))))
 
   later-after : (x y : Elem) → x ∈ m → y ∈ m → T (later s x y) → T (later (after s m) (moved m x) (moved m y))
   unfolding later moved
-  later-after (at types t) (at types u) i j q = lt→ltb (place (isKept m types) u) (place (isKept m types) t) (place-mono m types u t j i (ltb→lt u t q))
+  later-after (at types t) (at types u) i j q = lt→ltb (newHandle (isKept m types) u) (newHandle (isKept m types) t) (new-mono m types u t j i (ltb→lt u t q))
   later-after (at types t) (at constants u) i j q = tt
   later-after (at types t) (at overrides u) i j q = tt
   later-after (at types t) (at globals u) i j q = tt
@@ -278,12 +277,12 @@ module _ (s : Areas) (m : List Elem) (c : Sound s) (inside : Within m (Inside s)
   later-after (at overrides t) y i j q = tt
   later-after (at globals t) y i j q = tt
   later-after (at expressions e) (at types u) i j q =
-      rw (place-kept m types u j, place-kept m expressions e i)
-      (le→leb _ _ (le-trans (past-after u j) (rank-mono m expressions (maxDep s u) e (leb→le (maxDep s u) e q))))
+      rw (new-kept m types u j, new-kept m expressions e i)
+      (le→leb _ _ (le-trans (past-after u j) (rank-mono m expressions (pastDep s u) e (leb→le (pastDep s u) e q))))
   later-after (at expressions e) (at constants u) i j q = tt
   later-after (at expressions e) (at overrides u) i j q = tt
   later-after (at expressions e) (at globals u) i j q = tt
-  later-after (at expressions e) (at expressions u) i j q = lt→ltb (place (isKept m expressions) u) (place (isKept m expressions) e) (place-mono m expressions u e j i (ltb→lt u e q))
+  later-after (at expressions e) (at expressions u) i j q = lt→ltb (newHandle (isKept m expressions) u) (newHandle (isKept m expressions) e) (new-mono m expressions u e j i (ltb→lt u e q))
 
   within-all : (f : Elem → Bool) (l : List Elem) → Within l (λ y. T (f y)) → T (all f l)
   unfolding all
@@ -303,14 +302,14 @@ module _ (s : Areas) (m : List Elem) (c : Sound s) (inside : Within m (Inside s)
 
   -- ---- checks 1 and 2, and the mentions
 
-  mentions-total : (n : ℕ) → total any (λ i. length (mentionAfter s m i)) n ≡ n * 2
+  mentions-total : (n : ℕ) → total always (λ i. length (mentionAfter s m i)) n ≡ n * 2
   unfolding total mentionAfter
   mentions-total zero = refl
   mentions-total (suc n) = rw (mentions-total n) (omega arith)
 
   pub mentions-length : length (after s m .mentions) ≡ mentionCount s * 2
   unfolding keptAreas mentionsUpTo
-  mentions-length = length-gather any (mentionAfter s m) (mentionCount s) ∙ mentions-total (mentionCount s)
+  mentions-length = length-gather always (mentionAfter s m) (mentionCount s) ∙ mentions-total (mentionCount s)
 
   pub mentionCount-after : mentionCount (after s m) ≡ mentionCount s
   unfolding mentionCount
@@ -319,8 +318,8 @@ module _ (s : Areas) (m : List Elem) (c : Sound s) (inside : Within m (Inside s)
   pub mentionWord-after : (h k : ℕ) → h < mentionCount s → k < 2 → mentionWord (after s m) h k ≡ getD (mentionAfter s m h) k 0
   unfolding mentionWord keptAreas mentionsUpTo
   mentionWord-after h k l b =
-      ap (λ j. getD (gather any (mentionAfter s m) (mentionCount s)) (j + k) 0) (sym (mentions-total h))
-      ∙ gather-word any (mentionAfter s m) h (mentionCount s) k 0 tt l (two b)
+      ap (λ j. getD (gather always (mentionAfter s m) (mentionCount s)) (j + k) 0) (sym (mentions-total h))
+      ∙ gather-word always (mentionAfter s m) h (mentionCount s) k 0 tt l (two b)
     where
       two : k < 2 → k < length (mentionAfter s m h)
       two b = unfold mentionAfter in b
@@ -353,7 +352,7 @@ module _ (s : Areas) (m : List Elem) (c : Sound s) (inside : Within m (Inside s)
   unfolding runsUpTo startAfter runsBefore
   pool-le a e t =
       let q : length (pool (after s m) a) ≡ startAfter s m a (size s a) =
-      ap length e ∙ length-gather (isKept m a) (λ j. map (place (isKept m a)) (run s a j)) (size s a) ∙ start-total s m c a (size s a) (le-refl (size s a)) in
+      ap length e ∙ length-gather (isKept m a) (λ j. map (newHandle (isKept m a)) (run s a j)) (size s a) ∙ start-total s m c a (size s a) (le-refl (size s a)) in
       rw (q, ← eqb→eq (runsBefore s a (size s a)) (length (pool s a)) t) (total-any (isKept m a) (span s a) (size s a))
 
   arena-few : (a : Arena) (n : ℕ) → T (leb (size s a) n) → T (leb (size (after s m) a) n)

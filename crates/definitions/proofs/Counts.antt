@@ -15,7 +15,7 @@ use Rattle.definitions.specs.Lists.{total, gather}
 use Rattle.definitions.specs.Areas.{Words, N, Arena, types, constants, overrides, globals, expressions, Areas, Elem, size}
 use Rattle.definitions.specs.Sweep.{kept}
 use Rattle.definitions.specs.Refusals.{passes, check}
-use Rattle.definitions.specs.Numbering.{rank, place, mapUpTo, isKept, mapAfter}
+use Rattle.definitions.specs.Numbering.{rank, newHandle, mapUpTo, isKept, mapAfter}
 use Rattle.definitions.specs.Records.{startAfter, runsUpTo}
 use Rattle.definitions.specs.Outcome.{Maps, mapOf, lengths, keptCounts, mapsAfter, outcomeOf, outcome}
 use Rattle.definitions.specs.MapEntries.{live}
@@ -47,16 +47,16 @@ live-append (w ∷ l) r = go (eqb w N) (live-append l r)
 pub map-length : (p : ℕ → Bool) (n : ℕ) → length (mapUpTo p n) ≡ n
 unfolding mapUpTo gather
 map-length p zero = refl
-map-length p (suc n) = length-append (mapUpTo p n) (place p n ∷ []) ∙ ap (λ k. k + 1) (map-length p n) ∙ add-one n
+map-length p (suc n) = length-append (mapUpTo p n) (newHandle p n ∷ []) ∙ ap (λ k. k + 1) (map-length p n) ∙ add-one n
 
 -- of a map's first n words as many are other than N as are kept
 live-map : (p : ℕ → Bool) (n : ℕ) → n ≤ N → length (live (mapUpTo p n)) ≡ rank p n
-unfolding mapUpTo gather rank total live place
+unfolding mapUpTo gather rank total live newHandle
 live-map p zero l = refl
 live-map p (suc n) l =
-    ap length (live-append (mapUpTo p n) (place p n ∷ []))
-    ∙ length-append (live (mapUpTo p n)) (live (place p n ∷ []))
-    ∙ ap (λ k. k + length (live (place p n ∷ []))) (live-map p n (omega arith))
+    ap length (live-append (mapUpTo p n) (newHandle p n ∷ []))
+    ∙ length-append (live (mapUpTo p n)) (live (newHandle p n ∷ []))
+    ∙ ap (λ k. k + length (live (newHandle p n ∷ []))) (live-map p n (omega arith))
     ∙ go (p n)
   where
     go : (b : Bool) → rank p n + length (live (cond b (rank p n) N ∷ [])) ≡ cond b (rank p n + 1) (rank p n)

@@ -12,13 +12,13 @@ use Rattle.definitions.specs.Roots.{commonRoots, moreRoots, roots}
 use Rattle.definitions.specs.Order.{order}
 use Rattle.definitions.specs.Sweep.{kept}
 use Rattle.definitions.specs.Refusals.{check, check3, inside, passes}
-use Rattle.definitions.specs.Numbering.{isKept, moved, place, rank}
+use Rattle.definitions.specs.Numbering.{isKept, moved, newHandle, rank}
 use Rattle.definitions.specs.Records.{keptAreas}
 use Rattle.definitions.specs.Outcome.{Maps, lengths, outcome}
 use Rattle.definitions.proofs.Least.{_∈_, none-in, append-left, append-cases, Within, Closed, Reach, reached-in, sweep-reached}
 use Rattle.definitions.proofs.Accepted.{Sound, facts, accepts}
 use Rattle.definitions.proofs.Kept.{inside-lt, OrderedOn, all-ordered, kept-roots, kept-inside, kept-closed, kept-least}
-use Rattle.definitions.proofs.Places.{place-kept, place-mono, rank-below, no-gap}
+use Rattle.definitions.proofs.Places.{new-kept, new-mono, rank-below, no-gap}
 use Rattle.definitions.proofs.Reading.{references-after}
 use Rattle.definitions.proofs.SecondPass.{accepted-again, drops-nothing}
 use Rattle.definitions.proofs.Identity.{second-pass, outcome-self}
@@ -34,12 +34,12 @@ pub record Demand3 (s : Areas) (keep : Bool) : Type 1 where
   -- "and lies inside every other such set"
   pub least : (S : Elem → Type 0) → Closed s S → Within (roots s keep) S → Within (kept s keep) S
   -- "Kept elements are numbered from 0": each number is below the count
-  pub below-count : (a : Arena) (h : ℕ) → at a h ∈ kept s keep → place (isKept (kept s keep) a) h < rank (isKept (kept s keep) a) (size s a)
+  pub below-count : (a : Arena) (h : ℕ) → at a h ∈ kept s keep → newHandle (isKept (kept s keep) a) h < rank (isKept (kept s keep) a) (size s a)
   -- "without a gap": each number below the count is some kept element's
   pub without-gap : (a : Arena) (i : ℕ) → i < rank (isKept (kept s keep) a) (size s a)
-      → (h : ℕ) × (at a h ∈ kept s keep) × (place (isKept (kept s keep) a) h ≡ i)
+      → (h : ℕ) × (at a h ∈ kept s keep) × (newHandle (isKept (kept s keep) a) h ≡ i)
   -- "in their old order"
-  pub in-order : (a : Arena) (h k : ℕ) → at a h ∈ kept s keep → at a k ∈ kept s keep → h < k → place (isKept (kept s keep) a) h < place (isKept (kept s keep) a) k
+  pub in-order : (a : Arena) (h k : ℕ) → at a h ∈ kept s keep → at a k ∈ kept s keep → h < k → newHandle (isKept (kept s keep) a) h < newHandle (isKept (kept s keep) a) k
   -- "each kept record refers to the new places"
   pub refers : (x : Elem) → x ∈ kept s keep → references (keptAreas s (kept s keep)) (moved (kept s keep) x) ≡ map (moved (kept s keep)) (references s x)
   -- "a second pass with the same flag" is accepted wherever the maps have room,
@@ -57,7 +57,7 @@ moved-refers : (s : Areas) (c : Sound s) (keep : Bool) → OrderedOn s (kept s k
     → references (keptAreas s (kept s keep)) (moved (kept s keep) x) ≡ map (moved (kept s keep)) (references s x)
 unfolding moved
 moved-refers s c keep o (at a h) i =
-    rw (place-kept (kept s keep) a h i) (references-after s (kept s keep) c (kept-inside s c keep) (kept-closed s c keep o) a h i)
+    rw (new-kept (kept s keep) a h i) (references-after s (kept s keep) c (kept-inside s c keep) (kept-closed s c keep o) a h i)
 
 -- it is enough that what is kept is well ordered
 pub demand3-of : (s : Areas) (keep : Bool) → Sound s → OrderedOn s (kept s keep) → Demand3 s keep
@@ -68,11 +68,11 @@ demand3-of s keep c o =
       closed = kept-closed s c keep o;
       least = kept-least s keep;
       below-count = λ a h i.
-          rw (place-kept (kept s keep) a h i) (rank-below (kept s keep) a h (size s a) i (inside-lt s a h (kept-inside s c keep (at a h) i)));
-      in-order = λ a. place-mono (kept s keep) a;
+          rw (new-kept (kept s keep) a h i) (rank-below (kept s keep) a h (size s a) i (inside-lt s a h (kept-inside s c keep (at a h) i)));
+      in-order = λ a. new-mono (kept s keep) a;
       without-gap = λ a i l.
           let q = no-gap (kept s keep) a (size s a) i l in
-          (q .from, q .from-kept, place-kept (kept s keep) a (q .from) (q .from-kept) ∙ q .from-rank);
+          (q .from, q .from-kept, new-kept (kept s keep) a (q .from) (q .from-kept) ∙ q .from-rank);
       refers = moved-refers s c keep o;
       again-accepted = λ maps. accepts (keptAreas s (kept s keep)) maps (accepted-again s c keep o);
       again-keeps = drops-nothing s c keep o;

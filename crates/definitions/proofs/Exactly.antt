@@ -11,7 +11,7 @@ use native.Mathlib.Omega.{arith}
 use lib.Dec.{T, eqb, ltb, leb, eqb→eq, lit<, lit≤}
 use lib.ListN.{length, getD}
 use Rattle.definitions.specs.Areas.{Areas, Arena, N, at, constants, expressions, globals, lengthOf, limits, mentionCount}
-use Rattle.definitions.specs.Areas.{mentionWord, number, numbered, overrides, pool, recordsOf, size, types, widths}
+use Rattle.definitions.specs.Areas.{mentionWord, areaNumber, numbered, overrides, pool, recordsOf, size, types, widths}
 use Rattle.definitions.specs.Roots.{mention}
 use Rattle.definitions.specs.Order.{wellOrdered}
 use Rattle.definitions.specs.Refusals.{Verdict, accepted, check, check1, check2, check3, check4, check5, check6, check7, heldAt, inside}
@@ -79,7 +79,7 @@ module _ (s : Areas) (maps : List ℕ) where
   unfolding scanRecords scanMentions
   rising4 =
       arenas-rise (scanRecords 4 shapedAt s) rest4 32 40
-      (λ a. records-between 4 (number a) (shapedAt s a) (size s a) (32 + number a) (32 + suc (number a)) (omega arith) (omega arith)) (
+      (λ a. records-between 4 (areaNumber a) (shapedAt s a) (size s a) (32 + areaNumber a) (32 + suc (areaNumber a)) (omega arith) (omega arith)) (
         38,
         pool-between types 5,
         (39, pool-between expressions 6, (40, records-between 4 7 known (mentionCount s) 39 40 (lit≤ tt) (lit< tt), le-refl 40)),
@@ -90,12 +90,12 @@ module _ (s : Areas) (maps : List ℕ) where
   unfolding scanRecords scanMentions
   rising6 =
       arenas-rise (scanRecords 6 heldAt s) rest6 48 56
-      (λ a. records-between 6 (number a) (heldAt s a) (size s a) (48 + number a) (48 + suc (number a)) (omega arith) (omega arith))
+      (λ a. records-between 6 (areaNumber a) (heldAt s a) (size s a) (48 + areaNumber a) (48 + suc (areaNumber a)) (omega arith) (omega arith))
       (56, records-between 6 7 mentioned (mentionCount s) 53 56 (lit≤ tt) (lit< tt), le-refl 56)
 
   -- those of number 7
   rising7 : Rising 56 list7 64
-  unfolding scanRecords number
+  unfolding scanRecords areaNumber
   rising7 = (
     57,
     records-between 7 0 (wellOrdered s types) (size s types) 56 57 (lit≤ tt) (lit< tt),
@@ -109,7 +109,7 @@ module _ (s : Areas) (maps : List ℕ) where
 
   -- and those of all numbers
   rising : Rising 8 list 64
-  unfolding check1 check3 check4 check5 check6 check7 scanAreas scanRecords number
+  unfolding check1 check3 check4 check5 check6 check7 scanAreas scanRecords areaNumber
   rising = (
     16,
     areas-between 1 whole 8 16 (lit≤ tt),
@@ -161,9 +161,9 @@ module _ (s : Areas) (maps : List ℕ) where
 
   -- of a scan of records, where each that fails is one
   records-found : (nr : ℕ) (ok : Areas → Arena → ℕ → Bool) (a : Arena)
-      → ((h : ℕ) → h < size s a → (T (ok s a h) → ⊥) → Fault s maps nr (number a) h) → Found (scanRecords nr ok s a)
+      → ((h : ℕ) → h < size s a → (T (ok s a h) → ⊥) → Fault s maps nr (areaNumber a) h) → Found (scanRecords nr ok s a)
   unfolding scanRecords
-  records-found nr ok a r = scan-says Found (ok s a) (refused nr (number a)) (size s a) tt r
+  records-found nr ok a r = scan-says Found (ok s a) (refused nr (areaNumber a)) (size s a) tt r
 
   -- of a pool, where its arena's records are shaped
   pool-found : (a : Arena) (area : ℕ) → (runsBefore s a (size s a) < length (pool s a) → Fault s maps 4 area 0)
@@ -173,7 +173,7 @@ module _ (s : Areas) (maps : List ℕ) where
       cond-says Found (used a) accepted (refused 4 area 0) (λ u. tt)
       (λ f.
       let n : runsBefore s a (size s a) ≡ length (pool s a) → ⊥ = not-eqb (runsBefore s a (size s a)) (length (pool s a)) f in
-      let l = runs-end s a (scan-all (shapedAt s a) (refused 4 (number a)) (λ k u. u) (size s a) t) (size s a) (le-refl (size s a)) in
+      let l = runs-end s a (scan-all (shapedAt s a) (refused 4 (areaNumber a)) (λ k u. u) (size s a) t) (size s a) (le-refl (size s a)) in
       r (omega arith))
 
   -- of number 4
@@ -211,7 +211,7 @@ module _ (s : Areas) (maps : List ℕ) where
 
   -- of the check
   found : Found (check s maps)
-  unfolding check check1 check2 check3 check5 scanAreas number
+  unfolding check check1 check2 check3 check5 scanAreas areaNumber
   found =
       first-says Found list tt (
         scan-says Found whole (λ a. refused 1 a 0) 8 tt (λ a l f. ragged l (not-eqb (lengthOf s a % getD widths a 1) 0 f)),
@@ -227,8 +227,8 @@ module _ (s : Areas) (maps : List ℕ) where
   -- ---- a fault makes the check refuse, there or before
 
   -- an arena's number is an area's
-  counted : (a : Arena) → number a < 8
-  unfolding number
+  counted : (a : Arena) → areaNumber a < 8
+  unfolding areaNumber
   counted types = lit< tt
   counted constants = lit< tt
   counted overrides = lit< tt
@@ -245,24 +245,24 @@ module _ (s : Areas) (maps : List ℕ) where
   late k h l f = ⊎-elim (λ t. f (few t)) (λ b. by k h 1 b) (passes-or-by k h 16 24 l (check2 s) between2)
 
   -- a record that fails the test of number 4
-  met4 : (a : Arena) (h : ℕ) → h < size s a → (T (shapedAt s a h) → ⊥) → By (32 + number a) h (check s maps)
+  met4 : (a : Arena) (h : ℕ) → h < size s a → (T (shapedAt s a h) → ⊥) → By (32 + areaNumber a) h (check s maps)
   unfolding scanRecords
   met4 a h l f =
-      by4 (32 + number a) h (number a)
-      (rw (arenas-at (scanRecords 4 shapedAt s) rest4 a) (records-by 4 (number a) (shapedAt s a) (size s a) h l f))
+      by4 (32 + areaNumber a) h (areaNumber a)
+      (rw (arenas-at (scanRecords 4 shapedAt s) rest4 a) (records-by 4 (areaNumber a) (shapedAt s a) (size s a) h l f))
 
   -- of number 6
-  met6 : (a : Arena) (h : ℕ) → h < size s a → (((b : Arena) → size s b < N) → T (heldAt s a h) → ⊥) → By (48 + number a) h (check s maps)
+  met6 : (a : Arena) (h : ℕ) → h < size s a → (((b : Arena) → size s b < N) → T (heldAt s a h) → ⊥) → By (48 + areaNumber a) h (check s maps)
   unfolding scanRecords
   met6 a h l f =
-      late (48 + number a) h (omega arith)
+      late (48 + areaNumber a) h (omega arith)
       (λ w.
-      by6 (48 + number a) h (number a)
-      (rw (arenas-at (scanRecords 6 heldAt s) rest6 a) (records-by 6 (number a) (heldAt s a) (size s a) h l (f w))))
+      by6 (48 + areaNumber a) h (areaNumber a)
+      (rw (arenas-at (scanRecords 6 heldAt s) rest6 a) (records-by 6 (areaNumber a) (heldAt s a) (size s a) h l (f w))))
 
   -- of number 7
-  met7 : (a : Arena) (h : ℕ) → h < size s a → Plain (at a h) → (T (wellOrdered s a h) → ⊥) → By (56 + number a) h (check s maps)
-  unfolding scanRecords number
+  met7 : (a : Arena) (h : ℕ) → h < size s a → Plain (at a h) → (T (wellOrdered s a h) → ⊥) → By (56 + areaNumber a) h (check s maps)
+  unfolding scanRecords areaNumber
   met7 types h l p f = by7 56 h 0 (records-by 7 0 (wellOrdered s types) (size s types) h l f)
   met7 constants h l p f = absurd p
   met7 overrides h l p f = absurd p
@@ -278,7 +278,7 @@ module _ (s : Areas) (maps : List ℕ) where
 
   -- every fault
   met : {n a h : ℕ} → Fault s maps n a h → By (n * 8 + a) h (check s maps)
-  unfolding check1 check2 check3 check5 scanAreas scanRecords scanMentions number mention
+  unfolding check1 check2 check3 check5 scanAreas scanRecords scanMentions areaNumber mention
   met (ragged {a} l n) = by (8 + a) 0 0 (areas-by 1 whole 8 a l (λ t. n (eqb→eq (lengthOf s a % getD widths a 1) 0 t)))
   met (crowded {a} l q) = by (16 + a) 0 1 (areas-by 2 limited 8 a l (leb-fails q))
   met (shortMap {a} l q) = by (24 + a) 0 2 (areas-by 3 mapped 5 a l (leb-fails q))

@@ -12,11 +12,11 @@ use lib.Dec.{T, eqb, ltb, leb, eqb→eq, leb→le, lit<}
 use lib.ListN.{length, getD}
 use borrow.Author.Tests.{eqb-true, eqb-false, eq-eqb, ne-eqb}
 use Rattle.definitions.specs.Lists.{all, total}
-use Rattle.definitions.specs.Areas.{Areas, Arena, Elem, N, at, constants, expressions, globals, number, overrides, pool, size, types}
+use Rattle.definitions.specs.Areas.{Areas, Arena, Elem, N, at, constants, expressions, globals, areaNumber, overrides, pool, size, types}
 use Rattle.definitions.specs.Areas.{width, word}
 use Rattle.definitions.specs.Slots.{Slot, below, count, free, layout, may, must, start, unused}
 use Rattle.definitions.specs.References.{hasRun, references, run, span}
-use Rattle.definitions.specs.Order.{later, maxDep, onePast, sizedBy, wellOrdered, withBehind}
+use Rattle.definitions.specs.Order.{later, pastDep, onePast, sizedBy, wellOrdered, withBehind}
 use Rattle.definitions.specs.Refusals.{every, held, heldAt, inside, ofModule, runsBefore, shaped, shapedAt}
 use Rattle.definitions.specs.Faults.{Absent, Fault, Leads, Misplaced, Misshapen, Missing, slotAt, none, outside, needed, optional}
 use Rattle.definitions.specs.Faults.{taken, unknown, unpacked, overlong, straight, through, typeNotOlder, expressionNotOlder, depNotBelow}
@@ -165,12 +165,12 @@ module _ (s : Areas) where
       go false k c n q = absurd (not-suc-le-zero q)
 
   -- where dep(T) isn't below e, T or a type before it is sized so
-  dep-sizes : (t e : ℕ) → e < maxDep s t → (v : ℕ) × (v ≤ t) × Sizes v e
-  unfolding maxDep
+  dep-sizes : (t e : ℕ) → e < pastDep s t → (v : ℕ) × (v ≤ t) × Sizes v e
+  unfolding pastDep
   dep-sizes zero e l = (0, le-refl 0, above-sizes 0 e l)
-  dep-sizes (suc t) e l = go (decLt e (maxDep s t)) (dep-sizes t e)
+  dep-sizes (suc t) e l = go (decLt e (pastDep s t)) (dep-sizes t e)
     where
-      go : Dec (e < maxDep s t) → (e < maxDep s t → (v : ℕ) × (v ≤ t) × Sizes v e) → (v : ℕ) × (v ≤ suc t) × Sizes v e
+      go : Dec (e < pastDep s t) → (e < pastDep s t → (v : ℕ) × (v ≤ t) × Sizes v e) → (v : ℕ) × (v ≤ suc t) × Sizes v e
       go (yes q) r = let z = r q in (z .0, omega arith, z .2)
       go (no q) r = (suc t, le-refl (suc t), above-sizes (suc t) e (omega arith))
 
@@ -186,7 +186,7 @@ module _ (s : Areas) where
   unplaced (at overrides t) y f = absurd (f tt)
   unplaced (at globals t) y f = absurd (f tt)
   unplaced (at expressions e) (at types u) f =
-      let z = dep-sizes u e (not-leb (maxDep s u) e f) in
+      let z = dep-sizes u e (not-leb (pastDep s u) e f) in
       depNotBelow (z .1) (z .2 .kind) refl (z .2 .init-there) (z .2 .init-late)
   unplaced (at expressions e) (at constants u) f = absurd (f tt)
   unplaced (at expressions e) (at overrides u) f = absurd (f tt)
@@ -264,14 +264,14 @@ fails5 s h (inr e) t = rw e at t
 
 module _ (s : Areas) (maps : List ℕ) (a : Arena) (h : ℕ) where
   -- 4: in a word
-  pub fault4 : h < size s a → (T (shapedAt s a h) → ⊥) → Fault s maps 4 (number a) h
+  pub fault4 : h < size s a → (T (shapedAt s a h) → ⊥) → Fault s maps 4 (areaNumber a) h
   unfolding shapedAt
   fault4 l f =
       let q = word-fails s a h (shaped s a h) f in
       misshapen a (q .place) l (q .place-lt) (unshaped s a h (slotAt s a h (q .place)) (word s a h (q .place)) (q .fails))
 
   -- 6: in a slot, or in the run
-  pub fault6 : h < size s a → (T (heldAt s a h) → ⊥) → Fault s maps 6 (number a) h
+  pub fault6 : h < size s a → (T (heldAt s a h) → ⊥) → Fault s maps 6 (areaNumber a) h
   unfolding heldAt
   fault6 l f =
       ⊎-elim
@@ -284,7 +284,7 @@ module _ (s : Areas) (maps : List ℕ) (a : Arena) (h : ℕ) where
       (and-fails (slotsHeld s a h) (runHeld s a h) f)
 
   -- 7: in something that it leads to
-  pub fault7 : h < size s a → (T (wellOrdered s a h) → ⊥) → Fault s maps 7 (number a) h
+  pub fault7 : h < size s a → (T (wellOrdered s a h) → ⊥) → Fault s maps 7 (areaNumber a) h
   unfolding wellOrdered
   fault7 l f =
       let ys = withBehind s (references s (at a h)) in

@@ -11,22 +11,22 @@ use lib.Dec.{T, eqb, leb, eqb→eq, lit<}
 use lib.ListN.{length, getD, take, drop}
 use lib.Seq.{ext-getD, take-add, take-length}
 use borrow.Author.Tests.{eqb-true}
-use Rattle.definitions.specs.Lists.{all, any, gather, total}
+use Rattle.definitions.specs.Lists.{all, always, gather, total}
 use Rattle.definitions.specs.Areas.{Areas, Arena, Elem, N, Words, allWords, at, constants, expressions, globals, lengthOf, mentionCount, mentionWord, numbered, overrides, pool, size, types, width, widths, word, words}
 use Rattle.definitions.specs.Slots.{Slot, below, count, free, layout, may, must, start, unused}
 use Rattle.definitions.specs.References.{hasRun, run, span}
 use Rattle.definitions.specs.Roots.{mention}
 use Rattle.definitions.specs.Sweep.{has, kept}
 use Rattle.definitions.specs.Refusals.{every, held, heldAt, check, inside as test, passes, runsBefore, shaped, shapedAt}
-use Rattle.definitions.specs.Numbering.{isKept, place, rank}
+use Rattle.definitions.specs.Numbering.{isKept, newHandle, rank}
 use Rattle.definitions.specs.Outcome.{Maps, lengths, outcome, outcomeOf}
 use Rattle.definitions.specs.Records.{adjusted, areasAfter, keptAreas, padded, mentionAfter, runsUpTo, startAfter}
 use Rattle.definitions.proofs.ListLaws.{total-step}
 use Rattle.definitions.proofs.Least.{_∈_, and-left, and-right, Within, Closed}
 use Rattle.definitions.proofs.Accepted.{Sound}
 use Rattle.definitions.proofs.Kept.{Inside, inside-lt, lt-inside, inside-closed, OrderedOn, kept-inside}
-use Rattle.definitions.proofs.Places.{place-kept}
-use Rattle.definitions.proofs.Reading.{after, width-pos, word-after, length-after, length-layout, shaped-slot, every-at, place-none, run-eq, no-span, start-slot, run-wide}
+use Rattle.definitions.proofs.Places.{new-kept}
+use Rattle.definitions.proofs.Reading.{after, width-pos, word-after, length-after, length-layout, shaped-slot, every-at, run-eq, no-span, start-slot, run-wide}
 use Rattle.definitions.proofs.AcceptedAfter.{mentionWord-after, mentions-length}
 use Rattle.definitions.proofs.Unchanged.{outcome-accepted}
 use Rattle.definitions.proofs.SecondPass.{accepted-again, drops-nothing}
@@ -61,12 +61,12 @@ module _ (s : Areas) (m : List Elem) (c : Sound s) (ins : Within m (Inside s)) (
   keeps : (a : Arena) (h : ℕ) → h < size s a → at a h ∈ m
   keeps a h l = full (at a h) (lt-inside s a h l)
 
-  total-all : (a : Arena) (g : ℕ → ℕ) (h : ℕ) → h ≤ size s a → total (isKept m a) g h ≡ total any g h
+  total-all : (a : Arena) (g : ℕ → ℕ) (h : ℕ) → h ≤ size s a → total (isKept m a) g h ≡ total always g h
   unfolding total
   total-all a g zero l = refl
   total-all a g (suc h) l = total-step (isKept m a) g h (keeps a h l) ∙ ap (λ n. n + g h) (total-all a g h (le-trans (omega arith) l))
 
-  total-ones : (h : ℕ) → total any (λ _. 1) h ≡ h
+  total-ones : (h : ℕ) → total always (λ _. 1) h ≡ h
   unfolding total
   total-ones zero = refl
   total-ones (suc h) = ap (λ n. n + 1) (total-ones h) ∙ add-one h
@@ -75,8 +75,8 @@ module _ (s : Areas) (m : List Elem) (c : Sound s) (ins : Within m (Inside s)) (
   unfolding rank
   rank-all a h l = total-all a (λ _. 1) h l ∙ total-ones h
 
-  place-all : (a : Arena) (h : ℕ) → h < size s a → place (isKept m a) h ≡ h
-  place-all a h l = place-kept m a h (keeps a h l) ∙ rank-all a h (le-trans (omega arith) l)
+  new-all : (a : Arena) (h : ℕ) → h < size s a → newHandle (isKept m a) h ≡ h
+  new-all a h l = new-kept m a h (keeps a h l) ∙ rank-all a h (le-trans (omega arith) l)
 
   start-all : (a : Arena) (h : ℕ) → h ≤ size s a → startAfter s m a h ≡ runsBefore s a h
   unfolding startAfter runsBefore
@@ -88,12 +88,12 @@ module _ (s : Areas) (m : List Elem) (c : Sound s) (ins : Within m (Inside s)) (
   slot-stays a h k unused w t u = refl
   slot-stays a h k free w t u = refl
   slot-stays a h k (below n) w t u = refl
-  slot-stays a h k (must b) w t u = place-all b w (inside-lt s b w u)
+  slot-stays a h k (must b) w t u = new-all b w (inside-lt s b w u)
   slot-stays a h k (may b) w t u = go (eqb w N) (eqb-true w N) u
     where
-      go : (d : Bool) → (d ≡ true → w ≡ N) → T (cond d true (test s (at b w))) → place (isKept m b) w ≡ w
-      go true e v = ap (place (isKept m b)) (e refl) ∙ place-none s m c ins clo b ∙ sym (e refl)
-      go false e v = place-all b w (inside-lt s b w v)
+      go : (d : Bool) → (d ≡ true → w ≡ N) → T (cond d true (test s (at b w))) → cond d N (newHandle (isKept m b) w) ≡ w
+      go true e v = sym (e refl)
+      go false e v = new-all b w (inside-lt s b w v)
   slot-stays a h k start w t u =
       start-all a h (le-trans (omega arith) k) ∙ sym (eqb→eq w (runsBefore s a h) (and-left (eqb w (runsBefore s a h)) (leb (w + span s a h) (length (pool s a))) t))
   slot-stays a h k count w t u = refl
@@ -135,14 +135,14 @@ module _ (s : Areas) (m : List Elem) (c : Sound s) (ins : Within m (Inside s)) (
 
   -- ---- the pools
 
-  map-place : (a : Arena) (ws : Words) → T (all (λ w. test s (at a w)) ws) → map (place (isKept m a)) ws ≡ ws
+  map-place : (a : Arena) (ws : Words) → T (all (λ w. test s (at a w)) ws) → map (newHandle (isKept m a)) ws ≡ ws
   unfolding all
   map-place a [] t = refl
   map-place a (w ∷ ws) t =
-      ap₂ (λ p q. p ∷ q) (place-all a w (inside-lt s a w (and-left (test s (at a w)) (all (λ w. test s (at a w)) ws) t)))
+      ap₂ (λ p q. p ∷ q) (new-all a w (inside-lt s a w (and-left (test s (at a w)) (all (λ w. test s (at a w)) ws) t)))
       (map-place a ws (and-right (test s (at a w)) (all (λ w. test s (at a w)) ws) t))
 
-  run-place : (a : Arena) (h : ℕ) → h < size s a → map (place (isKept m a)) (run s a h) ≡ run s a h
+  run-place : (a : Arena) (h : ℕ) → h < size s a → map (newHandle (isKept m a)) (run s a h) ≡ run s a h
   unfolding heldAt
   run-place a h l = map-place a (run s a h) (and-right (every (held s) (word s a h) 0 (layout s a h)) (all (λ w. test s (at a w)) (run s a h)) (c .holds a h l))
 
@@ -156,14 +156,14 @@ module _ (s : Areas) (m : List Elem) (c : Sound s) (ins : Within m (Inside s)) (
           (start-is s a h (c .shapes a h l) (start-slot s m a h t) (subst (λ n. 2 < n) (sym (length-layout s m a h)) (le-trans (lit< tt) (run-wide s m a h t))))
       go false e = rw (no-span s a h e)
 
-  runs-all : (a : Arena) (h : ℕ) → h ≤ size s a → gather (isKept m a) (λ j. map (place (isKept m a)) (run s a j)) h ≡ take (runsBefore s a h) (pool s a)
+  runs-all : (a : Arena) (h : ℕ) → h ≤ size s a → gather (isKept m a) (λ j. map (newHandle (isKept m a)) (run s a j)) h ≡ take (runsBefore s a h) (pool s a)
   unfolding gather runsBefore total
   runs-all a zero l = refl
   runs-all a (suc h) l =
       ap₂ (λ p q. p ++ q) (runs-all a h (le-trans (omega arith) l)) (passed (has m (at a h)) (keeps a h l) ∙ run-place a h l ∙ run-there a h l)
       ∙ sym (take-add (runsBefore s a h) (span s a h) (pool s a))
     where
-      passed : (b : Bool) → T b → cond b (map (place (isKept m a)) (run s a h)) [] ≡ map (place (isKept m a)) (run s a h)
+      passed : (b : Bool) → T b → cond b (map (newHandle (isKept m a)) (run s a h)) [] ≡ map (newHandle (isKept m a)) (run s a h)
       passed true t = refl
       passed false t = absurd t
 
@@ -177,7 +177,7 @@ module _ (s : Areas) (m : List Elem) (c : Sound s) (ins : Within m (Inside s)) (
   mention-words : (h k : ℕ) → h < mentionCount s → k < 2 → getD (mentionAfter s m h) k 0 ≡ mentionWord s h k
   unfolding mentionAfter
   mention-words h zero l b = refl
-  mention-words h (suc zero) l b = place-all (numbered (mentionWord s h 0)) (mentionWord s h 1) (inside-lt s (numbered (mentionWord s h 0)) (mentionWord s h 1) (held-mention h l))
+  mention-words h (suc zero) l b = new-all (numbered (mentionWord s h 0)) (mentionWord s h 1) (inside-lt s (numbered (mentionWord s h 0)) (mentionWord s h 1) (held-mention h l))
     where
       held-mention : (h : ℕ) → h < mentionCount s → Inside s (at (numbered (mentionWord s h 0)) (mentionWord s h 1))
       held-mention h l = unfold mention in (c .mentions h l)

@@ -10,7 +10,7 @@ use native.Mathlib.Omega.{arith}
 use lib.Dec.{T, eqb, leb, ltb, not-T, ltb→lt, leb→le, nleb→lt, nltb→le, eqb-refl}
 use lib.ListN.{length, getD}
 use Rattle.definitions.specs.Lists.{all}
-use Rattle.definitions.specs.Areas.{Arena, constants, expressions, globals, number, overrides, types}
+use Rattle.definitions.specs.Areas.{Arena, constants, expressions, globals, areaNumber, overrides, types}
 use Rattle.definitions.specs.Slots.{Slot, free}
 use Rattle.definitions.specs.Refusals.{Verdict, accepted, every, firstOf, passes, refused, scan}
 use Rattle.definitions.proofs.Least.{and-left, and-right}
@@ -229,8 +229,8 @@ overArenas f l = f types ∷ f constants ∷ f overrides ∷ f globals ∷ f exp
 
 module _ (f : Arena → Verdict) (l : List Verdict) where
   -- each stands at its arena's number
-  pub arenas-at : (a : Arena) → getD (overArenas f l) (number a) accepted ≡ f a
-  unfolding number
+  pub arenas-at : (a : Arena) → getD (overArenas f l) (areaNumber a) accepted ≡ f a
+  unfolding areaNumber
   arenas-at types = refl
   arenas-at constants = refl
   arenas-at overrides = refl
@@ -238,9 +238,9 @@ module _ (f : Arena → Verdict) (l : List Verdict) where
   arenas-at expressions = refl
 
   -- they rise where each stands under its area, and more after them
-  pub arenas-rise : (k hi : ℕ) → ((a : Arena) → Between (k + number a) (k + suc (number a)) (f a))
+  pub arenas-rise : (k hi : ℕ) → ((a : Arena) → Between (k + areaNumber a) (k + suc (areaNumber a)) (f a))
       → Rising (k + 5) l hi → Rising (k + 0) (overArenas f l) hi
-  unfolding number
+  unfolding areaNumber
   arenas-rise k hi b r = (k + 1, b types, (k + 2, b constants, (k + 3, b overrides, (k + 4, b globals, (k + 5, b expressions, r)))))
 
   -- they all say what each says

@@ -10,12 +10,12 @@ use native.Mathlib.Omega.{arith}
 use lib.Dec.{T, eqb, ltb→lt, leb→le, lt→ltb}
 use lib.ListN.{getD}
 use borrow.Author.Tests.{eqb-true, eqb-false, eq-eqb, ne-eqb}
-use Rattle.definitions.specs.Lists.{all, any, countUp, select}
+use Rattle.definitions.specs.Lists.{all, always, countUp, select}
 use Rattle.definitions.specs.Areas.{Areas, Arena, Elem, N, Words, at, constants, expressions, globals, mentionCount, overrides, size, types, word}
 use Rattle.definitions.specs.Slots.{body, typeBody, exprBody, Slot, below, count, fill, free, layout, may, must, slots, start, typeSlots, unused}
 use Rattle.definitions.specs.References.{hasRun, namedBy, namedFrom, references, run, span}
 use Rattle.definitions.specs.Roots.{commonRoots, isNamed, mention, moreRoots, namedOverride, rootConstant, roots, those}
-use Rattle.definitions.specs.Order.{behind, later, maxDep, onePast, order, sizedBy, wellOrdered, withBehind}
+use Rattle.definitions.specs.Order.{behind, later, pastDep, onePast, order, sizedBy, wellOrdered, withBehind}
 use Rattle.definitions.specs.Sweep.{kept, sweep, visit}
 use Rattle.definitions.specs.Refusals.{every, held, heldAt, inside}
 use Rattle.definitions.proofs.Least.{_∈_, and-left, and-right, cons-cases, none-in, append-cases, Within, Sorted, touched-self, touched-behind, touched-cases, reached, visit-cases, visit-old, visit-new, sweep-old, Closed, touched-within, sweep-within, sweep-closed}
@@ -215,7 +215,7 @@ module _ (s : Areas) where
 
   more-inside : (keep : Bool) → Within (moreRoots s keep) Inside
   unfolding moreRoots
-  more-inside true = append-within Inside _ _ (append-within Inside _ _ (those-inside globals any) (those-inside overrides (namedOverride s))) (those-inside types (isNamed s))
+  more-inside true = append-within Inside _ _ (append-within Inside _ _ (those-inside globals always) (those-inside overrides (namedOverride s))) (those-inside types (isNamed s))
   more-inside false = none-within Inside
 
   roots-inside : Sound s → (keep : Bool) → Within (roots s keep) Inside
@@ -294,8 +294,8 @@ module _ (s : Areas) where
       (namedIn-within (InitRef o) (word s overrides o) 0 (layout s overrides o) (tt, (tt, (λ n. (refl, n), (tt, tt)))))
       (none-within (InitRef o))
 
-  pub sized-past : (t : ℕ) → sizedBy s t ≤ maxDep s t
-  unfolding maxDep
+  pub sized-past : (t : ℕ) → sizedBy s t ≤ pastDep s t
+  unfolding pastDep
   sized-past zero = le-refl (sizedBy s zero)
   sized-past (suc t) = omega arith
 
@@ -303,18 +303,18 @@ module _ (s : Areas) where
   unfolding sizedBy onePast
   sized t i k e n = rw (eq-eqb (word s types t 0) 2 k, ne-eqb (word s overrides (word s types t 3) 2) N n) (omega arith)
 
-  type-init : (t i : ℕ) → at expressions i ∈ reached s (at types t) → i < maxDep s t
+  type-init : (t i : ℕ) → at expressions i ∈ reached s (at types t) → i < pastDep s t
   type-init t i h =
       ⊎-elim (λ m. absurd (type-refs t (at expressions i) m))
       (λ b. go (b .front) (type-refs t (b .front) (b .front-in)) (b .is-behind))
       (touched-cases s (at expressions i) (references s (at types t)) h)
     where
-      over : (o : ℕ) → word s types t 0 ≡ 2 → o ≡ word s types t 3 → InitRef o (at expressions i) → i < maxDep s t
+      over : (o : ℕ) → word s types t 0 ≡ 2 → o ≡ word s types t 3 → InitRef o (at expressions i) → i < pastDep s t
       over o k e r =
           let q : InitRef (word s types t 3) (at expressions i) = subst (λ j. InitRef j (at expressions i)) e r in
           le-trans (sized t i k (q .0) (q .1)) (sized-past t)
 
-      go : (z : Elem) → TypeRef t z → at expressions i ∈ behind s z → i < maxDep s t
+      go : (z : Elem) → TypeRef t z → at expressions i ∈ behind s z → i < pastDep s t
       go (at types u) r m = absurd (plain-behind (at types u) (at expressions i) tt m)
       go (at constants u) r m = absurd r
       go (at overrides o) r m = over o (r .0) (r .1) (override-refs o (at expressions i) m)
@@ -344,7 +344,7 @@ module _ (s : Areas) where
   ordered m o (at overrides t) y i p q r = absurd p
   ordered m o (at globals t) y i p q r = absurd p
   ordered m o (at expressions e) (at types u) i p q r =
-      leb→le (maxDep s u) e (all-within (later s (at expressions e)) (reached s (at expressions e)) (o expressions e p i) (at types u) r)
+      leb→le (pastDep s u) e (all-within (later s (at expressions e)) (reached s (at expressions e)) (o expressions e p i) (at types u) r)
   ordered m o (at expressions e) (at constants u) i p q r = absurd q
   ordered m o (at expressions e) (at overrides u) i p q r = absurd q
   ordered m o (at expressions e) (at globals u) i p q r = absurd q

@@ -1,11 +1,11 @@
 -- The sweep keeps the least set that holds the roots and all that its members refer to: what does not look at how records are read.
 -- Assumes nothing.
-use mathlib.Core.Path.{_≡_, refl, ap₂, subst}
+use mathlib.Core.Path.{_≡_, refl, sym, ap, ap₂, subst, _∙_}
 use mathlib.Core.Bool.{Bool, true, false, _&&_, _||_, cond}
 use mathlib.Core.Logic.{_⊎_, inl, inr, ⊎-elim}
 use mathlib.Core.List.{List, [], _∷_, _++_}
 use lib.Dec.{T, eqb, eqb→eq, eqb-refl}
-use Rattle.definitions.specs.Areas.{Areas, Arena, Elem, at, constants, expressions, globals, number, overrides, same, types}
+use Rattle.definitions.specs.Areas.{Areas, Arena, Elem, at, constants, expressions, globals, areaNumber, numbered, overrides, same, types}
 use Rattle.definitions.specs.References.{references}
 use Rattle.definitions.specs.Order.{behind, withBehind}
 use Rattle.definitions.specs.Sweep.{has, sweep, visit}
@@ -38,42 +38,26 @@ and-right false b t = absurd t
 
 -- ---- elements
 
-number-eq : (a b : Arena) → T (eqb (number a) (number b)) → a ≡ b
-unfolding number
-number-eq types types t = refl
-number-eq types constants t = absurd t
-number-eq types overrides t = absurd t
-number-eq types globals t = absurd t
-number-eq types expressions t = absurd t
-number-eq constants types t = absurd t
-number-eq constants constants t = refl
-number-eq constants overrides t = absurd t
-number-eq constants globals t = absurd t
-number-eq constants expressions t = absurd t
-number-eq overrides types t = absurd t
-number-eq overrides constants t = absurd t
-number-eq overrides overrides t = refl
-number-eq overrides globals t = absurd t
-number-eq overrides expressions t = absurd t
-number-eq globals types t = absurd t
-number-eq globals constants t = absurd t
-number-eq globals overrides t = absurd t
-number-eq globals globals t = refl
-number-eq globals expressions t = absurd t
-number-eq expressions types t = absurd t
-number-eq expressions constants t = absurd t
-number-eq expressions overrides t = absurd t
-number-eq expressions globals t = absurd t
-number-eq expressions expressions t = refl
+-- an arena is the one of its area number
+pub numbered-number : (a : Arena) → numbered (areaNumber a) ≡ a
+unfolding numbered areaNumber
+numbered-number types = refl
+numbered-number constants = refl
+numbered-number overrides = refl
+numbered-number globals = refl
+numbered-number expressions = refl
+
+number-eq : (a b : Arena) → T (eqb (areaNumber a) (areaNumber b)) → a ≡ b
+number-eq a b t = sym (numbered-number a) ∙ ap numbered (eqb→eq (areaNumber a) (areaNumber b) t) ∙ numbered-number b
 
 pub same-eq : (x y : Elem) → T (same x y) → x ≡ y
 unfolding same
 same-eq (at a h) (at b k) t =
-    ap₂ at (number-eq a b (and-left (eqb (number a) (number b)) (eqb h k) t)) (eqb→eq h k (and-right (eqb (number a) (number b)) (eqb h k) t))
+    ap₂ at (number-eq a b (and-left (eqb (areaNumber a) (areaNumber b)) (eqb h k) t)) (eqb→eq h k (and-right (eqb (areaNumber a) (areaNumber b)) (eqb h k) t))
 
 pub same-refl : (x : Elem) → T (same x x)
 unfolding same
-same-refl (at a h) = both (eqb (number a) (number a)) (eqb h h) (eqb-refl (number a)) (eqb-refl h)
+same-refl (at a h) = both (eqb (areaNumber a) (areaNumber a)) (eqb h h) (eqb-refl (areaNumber a)) (eqb-refl h)
   where
     both : (p q : Bool) → T p → T q → T (p && q)
     both true q t u = u

@@ -11,7 +11,7 @@ use native.Mathlib.Omega.{arith}
 use lib.Dec.{T}
 use lib.ListN.{length, getD, take, drop, length-append}
 use lib.Seq.{take-append-seam, drop-append-seam, getD-drop, getD-take}
-use Rattle.definitions.specs.Lists.{any, gather, total}
+use Rattle.definitions.specs.Lists.{always, gather, total}
 
 module _ (p : ℕ → Bool) (g : ℕ → ℕ) where
   pub total-step : (h : ℕ) → T (p h) → total p g (suc h) ≡ total p g h + g h
@@ -41,12 +41,12 @@ module _ (p : ℕ → Bool) (g : ℕ → ℕ) where
   pub total-share : (h k : ℕ) → T (p h) → h < k → total p g h + g h ≤ total p g k
   total-share h k t l = subst (λ j. j ≤ total p g k) (total-step h t) (total-mono k (suc h) l)
 
-pub total-any : (p : ℕ → Bool) (g : ℕ → ℕ) (n : ℕ) → total p g n ≤ total any g n
+pub total-any : (p : ℕ → Bool) (g : ℕ → ℕ) (n : ℕ) → total p g n ≤ total always g n
 unfolding total
 total-any p g zero = le-refl 0
 total-any p g (suc n) = go (p n) (total-any p g n)
   where
-    go : (b : Bool) → total p g n ≤ total any g n → cond b (total p g n + g n) (total p g n) ≤ total any g n + g n
+    go : (b : Bool) → total p g n ≤ total always g n → cond b (total p g n + g n) (total p g n) ≤ total always g n + g n
     go true l = omega arith
     go false l = omega arith
 

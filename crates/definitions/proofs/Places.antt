@@ -11,7 +11,7 @@ use lib.Dec.{T}
 use Rattle.definitions.specs.Lists.{total}
 use Rattle.definitions.specs.Areas.{Arena, Elem, N, at}
 use Rattle.definitions.specs.Sweep.{has}
-use Rattle.definitions.specs.Numbering.{isKept, place, rank}
+use Rattle.definitions.specs.Numbering.{isKept, newHandle, rank}
 use Rattle.definitions.proofs.ListLaws.{total-mono, total-share, unrank}
 use Rattle.definitions.proofs.Least.{_∈_}
 
@@ -26,17 +26,17 @@ rank-le p (suc h) = go (p h) (rank-le p h)
     go false l = omega arith
 
 module _ (m : List Elem) (a : Arena) where
-  pub place-kept : (h : ℕ) → at a h ∈ m → place (isKept m a) h ≡ rank (isKept m a) h
-  unfolding place
-  place-kept h t = go (has m (at a h)) t
+  pub new-kept : (h : ℕ) → at a h ∈ m → newHandle (isKept m a) h ≡ rank (isKept m a) h
+  unfolding newHandle
+  new-kept h t = go (has m (at a h)) t
     where
       go : (b : Bool) → T b → cond b (rank (isKept m a) h) N ≡ rank (isKept m a) h
       go true u = refl
       go false u = absurd u
 
-  pub place-dropped : (h : ℕ) → (at a h ∈ m → ⊥) → place (isKept m a) h ≡ N
-  unfolding place
-  place-dropped h t = go (has m (at a h)) t
+  pub new-dropped : (h : ℕ) → (at a h ∈ m → ⊥) → newHandle (isKept m a) h ≡ N
+  unfolding newHandle
+  new-dropped h t = go (has m (at a h)) t
     where
       go : (b : Bool) → (T b → ⊥) → cond b (rank (isKept m a) h) N ≡ N
       go true u = absurd (u tt)
@@ -51,8 +51,8 @@ module _ (m : List Elem) (a : Arena) where
   rank-below h k t l = subst (λ j. j ≤ rank (isKept m a) k) (add-one (rank (isKept m a) h)) (total-share (isKept m a) (λ _. 1) h k t l)
 
   -- the old order
-  pub place-mono : (h k : ℕ) → at a h ∈ m → at a k ∈ m → h < k → place (isKept m a) h < place (isKept m a) k
-  place-mono h k i j l = rw (place-kept h i, place-kept k j) (rank-below h k i l)
+  pub new-mono : (h k : ℕ) → at a h ∈ m → at a k ∈ m → h < k → newHandle (isKept m a) h < newHandle (isKept m a) k
+  new-mono h k i j l = rw (new-kept h i, new-kept k j) (rank-below h k i l)
 
   -- no gap: each number below the count is the place of a kept record
   pub record Placed (n i : ℕ) : Type 0 where

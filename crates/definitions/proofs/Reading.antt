@@ -14,13 +14,13 @@ use Rattle.definitions.specs.Areas.{Areas, Arena, Elem, N, Words, at, co
 use Rattle.definitions.specs.Slots.{body, typeBody, exprBody, Slot, below, count, exprSlots, fill, formOf, free, layout, may, must, slots, start, typeSlots, unused}
 use Rattle.definitions.specs.References.{hasRun, namedBy, namedFrom, references, run, span}
 use Rattle.definitions.specs.Refusals.{every, runsBefore, shaped, shapedAt}
-use Rattle.definitions.specs.Numbering.{isKept, moved, place, rank}
+use Rattle.definitions.specs.Numbering.{isKept, moved, newHandle, rank}
 use Rattle.definitions.specs.Records.{adjusted, adjustedFrom, keptAreas, recordAfter, recordsUpTo, runsUpTo, startAfter}
 use Rattle.definitions.proofs.ListLaws.{total-cong, total-scale, length-gather, gather-part, gather-word}
 use Rattle.definitions.proofs.Least.{_∈_, and-left, and-right, Within, Closed, here, append-left, append-right}
 use Rattle.definitions.proofs.Accepted.{Sound, size-few}
 use Rattle.definitions.proofs.Kept.{SlotHolds, EachSlot, Inside, inside-lt, lt-inside}
-use Rattle.definitions.proofs.Places.{place-kept, place-dropped, rank-le, rank-below}
+use Rattle.definitions.proofs.Places.{new-kept, new-dropped, rank-le, rank-below}
 
 pub map-append : {A B : Type 0} (f : A → B) (l r : List A) → map f (l ++ r) ≡ map f l ++ map f r
 map-append f [] r = refl
@@ -49,10 +49,10 @@ pub refs-eq : (s : Areas) (a : Arena) (h : ℕ) → references s (at a h) ≡ na
 unfolding references
 refs-eq s a h = refl
 
-map-moved : (m : List Elem) (a : Arena) (ws : Words) → map (at a) (map (place (isKept m a)) ws) ≡ map (moved m) (map (at a) ws)
+map-moved : (m : List Elem) (a : Arena) (ws : Words) → map (at a) (map (newHandle (isKept m a)) ws) ≡ map (moved m) (map (at a) ws)
 unfolding moved
 map-moved m a [] = refl
-map-moved m a (w ∷ ws) = ap (λ q. at a (place (isKept m a) w) ∷ q) (map-moved m a ws)
+map-moved m a (w ∷ ws) = ap (λ q. at a (newHandle (isKept m a) w) ∷ q) (map-moved m a ws)
 
 pub run-eq : (s : Areas) (a : Arena) (h : ℕ) → run s a h ≡ take (span s a h) (drop (word s a h 2) (pool s a))
 unfolding run
@@ -305,26 +305,26 @@ module _ (s : Areas) (m : List Elem) where
     pool-after globals h t = absurd t
     pool-after expressions h t = refl
 
-    pub start-total : (a : Arena) (h : ℕ) → h ≤ size s a → total (isKept m a) (λ j. length (map (place (isKept m a)) (run s a j))) h ≡ startAfter s m a h
+    pub start-total : (a : Arena) (h : ℕ) → h ≤ size s a → total (isKept m a) (λ j. length (map (newHandle (isKept m a)) (run s a j))) h ≡ startAfter s m a h
     unfolding startAfter
     start-total a h l =
-        total-cong (isKept m a) (λ j. length (map (place (isKept m a)) (run s a j))) (span s a) h
-        (λ j q t. length-map (run s a j) (place (isKept m a)) ∙ run-fits a j (le-trans q l))
+        total-cong (isKept m a) (λ j. length (map (newHandle (isKept m a)) (run s a j))) (span s a) h
+        (λ j q t. length-map (run s a j) (newHandle (isKept m a)) ∙ run-fits a j (le-trans q l))
 
     run-part : (a : Arena) (h : ℕ) → h < size s a → at a h ∈ m
-        → take (length (map (place (isKept m a)) (run s a h))) (drop (total (isKept m a) (λ j. length (map (place (isKept m a)) (run s a j))) h) (runsUpTo s m a (size s a)))
-        ≡ map (place (isKept m a)) (run s a h)
+        → take (length (map (newHandle (isKept m a)) (run s a h))) (drop (total (isKept m a) (λ j. length (map (newHandle (isKept m a)) (run s a j))) h) (runsUpTo s m a (size s a)))
+        ≡ map (newHandle (isKept m a)) (run s a h)
     unfolding runsUpTo
-    run-part a h l i = gather-part (isKept m a) (λ j. map (place (isKept m a)) (run s a j)) h (size s a) i l
+    run-part a h l i = gather-part (isKept m a) (λ j. map (newHandle (isKept m a)) (run s a j)) h (size s a) i l
 
-    pub run-after : (a : Arena) (h : ℕ) → at a h ∈ m → h < size s a → run after a (rank (isKept m a) h) ≡ map (place (isKept m a)) (run s a h)
+    pub run-after : (a : Arena) (h : ℕ) → at a h ∈ m → h < size s a → run after a (rank (isKept m a) h) ≡ map (newHandle (isKept m a)) (run s a h)
     run-after a h i l = run-eq after a (rank (isKept m a) h) ∙ go (hasRun s a h) refl
       where
         go : (b : Bool) → hasRun s a h ≡ b
-            → take (span after a (rank (isKept m a) h)) (drop (word after a (rank (isKept m a) h) 2) (pool after a)) ≡ map (place (isKept m a)) (run s a h)
+            → take (span after a (rank (isKept m a) h)) (drop (word after a (rank (isKept m a) h) 2) (pool after a)) ≡ map (newHandle (isKept m a)) (run s a h)
         go true e =
             let t : T (hasRun s a h) = subst T (sym e) tt in
-            let n : length (map (place (isKept m a)) (run s a h)) ≡ span s a h = length-map (run s a h) (place (isKept m a)) ∙ run-fits a h l in
+            let n : length (map (newHandle (isKept m a)) (run s a h)) ≡ span s a h = length-map (run s a h) (newHandle (isKept m a)) ∙ run-fits a h l in
             rw (span-after a h i l, start-after a h i l t, pool-after a h t, ← n, ← start-total a h (le-trans (omega arith) l))
             (run-part a h l i)
         go false e =
@@ -336,15 +336,12 @@ module _ (s : Areas) (m : List Elem) where
       pub kept-few : (a : Arena) (h : ℕ) → at a h ∈ m → h < N
       kept-few a h i = le-trans (inside-lt s a h (inside (at a h) i)) (le-trans (omega arith) (size-few s (c .few) a))
 
-      pub place-few : (a : Arena) (h : ℕ) → at a h ∈ m → place (isKept m a) h ≡ N → ⊥
-      place-few a h i e =
-          let q : rank (isKept m a) h ≡ N = sym (place-kept m a h i) ∙ e in
+      pub new-few : (a : Arena) (h : ℕ) → at a h ∈ m → newHandle (isKept m a) h ≡ N → ⊥
+      new-few a h i e =
+          let q : rank (isKept m a) h ≡ N = sym (new-kept m a h i) ∙ e in
           let r : rank (isKept m a) h ≤ h = rank-le (isKept m a) h in
           let k : h < N = kept-few a h i in
           omega arith
-
-      pub place-none : (a : Arena) → place (isKept m a) N ≡ N
-      place-none a = place-dropped m a N (λ i. let k : N < N = kept-few a N i in omega arith)
 
       named-after : (b : ℕ) (l : Slot) (w : ℕ) → SlotHolds (λ x. x ∈ m) l w → namedBy l (adjusted m b l w) ≡ map (moved m) (namedBy l w)
       unfolding namedBy adjusted moved
@@ -354,11 +351,10 @@ module _ (s : Areas) (m : List Elem) where
       named-after b (must a) w p = refl
       named-after b (may a) w p = go (eqb w N) refl
         where
-          go : (d : Bool) → eqb w N ≡ d → cond (eqb (place (isKept m a) w) N) [] (at a (place (isKept m a) w) ∷ []) ≡ map (moved m) (cond d [] (at a w ∷ []))
-          go true e =
-              let q : place (isKept m a) w ≡ N = ap (place (isKept m a)) (eqb-true w N e) ∙ place-none a in
-              rw (eq-eqb (place (isKept m a) w) N q)
-          go false e = rw (ne-eqb (place (isKept m a) w) N (place-few a w (p (eqb-false w N e))))
+          go : (d : Bool) → eqb w N ≡ d
+              → namedBy (may a) (cond d N (newHandle (isKept m a) w)) ≡ map (moved m) (cond d [] (at a w ∷ []))
+          go true e = refl
+          go false e = rw (ne-eqb (newHandle (isKept m a) w) N (new-few a w (p (eqb-false w N e))))
       named-after b start w p = refl
       named-after b count w p = refl
 
@@ -400,4 +396,4 @@ module _ (s : Areas) (m : List Elem) where
       pub moved-inside : (x : Elem) → x ∈ m → Inside after (moved m x)
       unfolding moved
       moved-inside (at a h) i =
-          lt-inside after a (place (isKept m a) h) (rw (place-kept m a h i, size-after a) (rank-below m a h (size s a) i (inside-lt s a h (inside (at a h) i))))
+          lt-inside after a (newHandle (isKept m a) h) (rw (new-kept m a h i, size-after a) (rank-below m a h (size s a) i (inside-lt s a h (inside (at a h) i))))

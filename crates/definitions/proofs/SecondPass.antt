@@ -8,7 +8,7 @@ use Prim.Native.Nat.{ℕ, zero, suc, _+_, _-_, _≤_, _<_, zero-le}
 use native.Mathlib.Nat.{eq-or-lt-of-le, zero-add}
 use native.Mathlib.Omega.{arith}
 use lib.Dec.{T, lit<}
-use Rattle.definitions.specs.Lists.{any, countUp, select}
+use Rattle.definitions.specs.Lists.{always, countUp, select}
 use Rattle.definitions.specs.Areas.{Areas, Arena, Elem, at, constants, globals, mentionCount, overrides, size, types, width, word}
 use Rattle.definitions.specs.Slots.{body, typeBody, exprBody, below, layout, slots}
 use Rattle.definitions.specs.References.{references}
@@ -19,7 +19,7 @@ use Rattle.definitions.specs.Records.{adjusted}
 use Rattle.definitions.proofs.Least.{_∈_, Within, Closed, here, there, cons-cases, none-in, append-left, append-right, append-cases}
 use Rattle.definitions.proofs.Accepted.{Sound, Accepted}
 use Rattle.definitions.proofs.Kept.{Inside, inside-lt, map-within, each-map, count-below, OrderedOn, all-ordered, kept-roots, kept-inside, kept-closed, kept-least}
-use Rattle.definitions.proofs.Places.{place-kept, rank-below, no-gap}
+use Rattle.definitions.proofs.Places.{new-kept, rank-below, no-gap}
 use Rattle.definitions.proofs.Reading.{after, size-after, word-after, word-stays, references-after}
 use Rattle.definitions.proofs.AcceptedAfter.{moved-kept, kept-slots, mentionCount-after, mention-after, accepted-after}
 
@@ -145,7 +145,7 @@ module _ (s : Areas) (c : Sound s) (keep : Bool) (o : OrderedOn s (kept s keep))
       rw (
         word-stays s m constants h i l 0 (lit< tt) (below 2) refl refl,
         word-after s m constants h 1 i l (lit< tt),
-        place-kept m types (word s constants h 1) it,
+        new-kept m types (word s constants h 1) it,
         flags-after (word s constants h 1) it,
       ) t
 
@@ -161,12 +161,12 @@ module _ (s : Areas) (c : Sound s) (keep : Bool) (o : OrderedOn s (kept s keep))
   unfolding moreRoots
   more-after true x i t =
       ⊎-elim
-      (λ u. append-left (moved m x) (those (after s m) globals any ++ those (after s m) overrides (namedOverride (after s m))) _ (⊎-elim
-      (λ g. append-left (moved m x) (those (after s m) globals any) _ (those-after globals any any (λ h j p. tt) x i g))
-      (λ o. append-right (moved m x) (those (after s m) globals any) _ (those-after overrides (namedOverride s) (namedOverride (after s m)) overrides-after x i o))
-      (append-cases x (those s globals any) (those s overrides (namedOverride s)) u)))
-      (λ u. append-right (moved m x) (those (after s m) globals any ++ those (after s m) overrides (namedOverride (after s m))) _ (those-after types (isNamed s) (isNamed (after s m)) types-after x i u))
-      (append-cases x (those s globals any ++ those s overrides (namedOverride s)) (those s types (isNamed s)) t)
+      (λ u. append-left (moved m x) (those (after s m) globals always ++ those (after s m) overrides (namedOverride (after s m))) _ (⊎-elim
+      (λ g. append-left (moved m x) (those (after s m) globals always) _ (those-after globals always always (λ h j p. tt) x i g))
+      (λ o. append-right (moved m x) (those (after s m) globals always) _ (those-after overrides (namedOverride s) (namedOverride (after s m)) overrides-after x i o))
+      (append-cases x (those s globals always) (those s overrides (namedOverride s)) u)))
+      (λ u. append-right (moved m x) (those (after s m) globals always ++ those (after s m) overrides (namedOverride (after s m))) _ (those-after types (isNamed s) (isNamed (after s m)) types-after x i u))
+      (append-cases x (those s globals always ++ those s overrides (namedOverride s)) (those s types (isNamed s)) t)
   more-after false x i t = absurd (none-in x t)
 
   mention-root : (x : Elem) → x ∈ map (mention s) (countUp 0 (mentionCount s)) → moved m x ∈ map (mention (after s m)) (countUp 0 (mentionCount (after s m)))

@@ -9,7 +9,7 @@ use native.Mathlib.Decide.{decLe}
 use native.Mathlib.Omega.{arith}
 use lib.ListN.{length, length-append}
 use Rattle.definitions.specs.Areas.{Areas, Elem, at, constants, expressions, globals, overrides, types}
-use Rattle.definitions.specs.Order.{falling, maxDep, visits}
+use Rattle.definitions.specs.Order.{falling, pastDep, visits}
 use Rattle.definitions.proofs.Least.{_∈_, here, there, cons-cases, none-in, append-left, append-right, append-cases, Within, Sorted, sorted-append}
 
 le-or-lt : (a b : ℕ) → (a ≤ b) ⊎ (b < a)
@@ -26,11 +26,11 @@ module _ (s : Areas) where
   Before (at types t) (at constants h) = ⊥
   Before (at types t) (at overrides h) = ⊥
   Before (at types t) (at globals h) = ⊥
-  Before (at types t) (at expressions e) = e < maxDep s t
+  Before (at types t) (at expressions e) = e < pastDep s t
   Before (at constants c) y = ⊥
   Before (at overrides c) y = ⊥
   Before (at globals c) y = ⊥
-  Before (at expressions e) (at types u) = maxDep s u ≤ e
+  Before (at expressions e) (at types u) = pastDep s u ≤ e
   Before (at expressions e) (at constants h) = ⊥
   Before (at expressions e) (at overrides h) = ⊥
   Before (at expressions e) (at globals h) = ⊥
@@ -59,15 +59,15 @@ module _ (s : Areas) where
   Among t p e (at globals h) = ⊥
   Among t p e (at expressions i) = (p ≤ i) × (i < e)
 
-  pub past-mono : (t u : ℕ) → u ≤ t → maxDep s u ≤ maxDep s t
-  unfolding maxDep
-  past-mono zero u h = subst (λ k. maxDep s k ≤ maxDep s zero) (sym (le-zero u h)) (le-refl (maxDep s zero))
+  pub past-mono : (t u : ℕ) → u ≤ t → pastDep s u ≤ pastDep s t
+  unfolding pastDep
+  past-mono zero u h = subst (λ k. pastDep s k ≤ pastDep s zero) (sym (le-zero u h)) (le-refl (pastDep s zero))
     where
       le-zero : (u : ℕ) → u ≤ zero → u ≡ zero
       le-zero u h = omega arith
   past-mono (suc t) u h =
-      ⊎-elim (λ e. subst (λ k. maxDep s k ≤ maxDep s (suc t)) (sym e) (le-refl (maxDep s (suc t))))
-      (λ l. let m : maxDep s u ≤ maxDep s t = past-mono t u (le-of-suc-le-suc l) in omega arith)
+      ⊎-elim (λ e. subst (λ k. pastDep s k ≤ pastDep s (suc t)) (sym e) (le-refl (pastDep s (suc t))))
+      (λ l. let m : pastDep s u ≤ pastDep s t = past-mono t u (le-of-suc-le-suc l) in omega arith)
       (eq-or-lt-of-le h)
 
   falling-length : (p n : ℕ) → length (falling p n) ≡ n
@@ -117,21 +117,21 @@ module _ (s : Areas) where
   unfolding visits
   visits-among zero e x h = subst (λ k. Among 0 0 k x) (zero-add e) (falling-among 0 e x h)
   visits-among (suc t) e x h =
-      ⊎-elim (λ i. some x (falling-among (maxDep s t) (e - maxDep s t) x i))
+      ⊎-elim (λ i. some x (falling-among (pastDep s t) (e - pastDep s t) x i))
       (λ i.
       ⊎-elim (λ q. subst (Among (suc t) 0 e) (sym q) (le-refl (suc t)))
-      (λ j. rest x (visits-among t (min e (maxDep s t)) x j))
-      (cons-cases x (at types t) (visits s t (min e (maxDep s t))) i))
-      (append-cases x (falling (maxDep s t) (e - maxDep s t)) (at types t ∷ visits s t (min e (maxDep s t))) h)
+      (λ j. rest x (visits-among t (min e (pastDep s t)) x j))
+      (cons-cases x (at types t) (visits s t (min e (pastDep s t))) i))
+      (append-cases x (falling (pastDep s t) (e - pastDep s t)) (at types t ∷ visits s t (min e (pastDep s t))) h)
     where
-      some : (x : Elem) → Among 0 (maxDep s t) (maxDep s t + (e - maxDep s t)) x → Among (suc t) 0 e x
+      some : (x : Elem) → Among 0 (pastDep s t) (pastDep s t + (e - pastDep s t)) x → Among (suc t) 0 e x
       some (at types u) a = omega arith
       some (at constants u) a = a
       some (at overrides u) a = a
       some (at globals u) a = a
       some (at expressions u) a = omega arith
 
-      rest : (x : Elem) → Among t 0 (min e (maxDep s t)) x → Among (suc t) 0 e x
+      rest : (x : Elem) → Among t 0 (min e (pastDep s t)) x → Among (suc t) 0 e x
       rest (at types u) a = omega arith
       rest (at constants u) a = a
       rest (at overrides u) a = a
@@ -151,7 +151,7 @@ module _ (s : Areas) where
       (cons-cases y (at types t) (visits s t (min e p)) j))
     where
       p : ℕ
-      p = maxDep s t
+      p = pastDep s t
 
       then : (y : Elem) → Among t 0 (min e p) y → Before (at types t) y
       then (at types u) a = a
@@ -183,9 +183,9 @@ module _ (s : Areas) where
   unfolding visits
   visits-types zero e u h = absurd (not-suc-le-zero h)
   visits-types (suc t) e u h =
-      append-right (at types u) (falling (maxDep s t) (e - maxDep s t)) (at types t ∷ visits s t (min e (maxDep s t)))
-      (⊎-elim (λ q. subst (λ k. at types u ∈ at types k ∷ visits s t (min e (maxDep s t))) q (here (at types u) _))
-      (λ l. there (at types u) (at types t) _ (visits-types t (min e (maxDep s t)) u l))
+      append-right (at types u) (falling (pastDep s t) (e - pastDep s t)) (at types t ∷ visits s t (min e (pastDep s t)))
+      (⊎-elim (λ q. subst (λ k. at types u ∈ at types k ∷ visits s t (min e (pastDep s t))) q (here (at types u) _))
+      (λ l. there (at types u) (at types t) _ (visits-types t (min e (pastDep s t)) u l))
       (eq-or-lt-of-le (le-of-suc-le-suc h)))
 
   pub visits-expressions : (t e i : ℕ) → i < e → at expressions i ∈ visits s t e
@@ -193,29 +193,29 @@ module _ (s : Areas) where
   visits-expressions zero e i h = falling-all 0 e i zero-le (subst (λ k. i < k) (sym (zero-add e)) h)
   visits-expressions (suc t) e i h =
       ⊎-elim
-      (λ a. append-left (at expressions i) (falling (maxDep s t) (e - maxDep s t)) _ (falling-all (maxDep s t) (e - maxDep s t) i a (omega arith)))
+      (λ a. append-left (at expressions i) (falling (pastDep s t) (e - pastDep s t)) _ (falling-all (pastDep s t) (e - pastDep s t) i a (omega arith)))
       (λ b.
-      append-right (at expressions i) (falling (maxDep s t) (e - maxDep s t)) _
-      (there (at expressions i) (at types t) _ (visits-expressions t (min e (maxDep s t)) i (omega arith))))
-      (le-or-lt (maxDep s t) i)
+      append-right (at expressions i) (falling (pastDep s t) (e - pastDep s t)) _
+      (there (at expressions i) (at types t) _ (visits-expressions t (min e (pastDep s t)) i (omega arith))))
+      (le-or-lt (pastDep s t) i)
 
   -- ---- the visits one at a time, as two falling numbers make them
 
   -- an expression above dep of the youngest unvisited type comes next
-  pub next-expression : (t e : ℕ) → maxDep s t ≤ e → visits s (suc t) (suc e) ≡ at expressions e ∷ visits s (suc t) e
+  pub next-expression : (t e : ℕ) → pastDep s t ≤ e → visits s (suc t) (suc e) ≡ at expressions e ∷ visits s (suc t) e
   unfolding visits falling
   next-expression t e l =
-      let a : suc e - maxDep s t ≡ suc (e - maxDep s t) = omega arith in
-      let b : maxDep s t + (e - maxDep s t) ≡ e = omega arith in
-      let d : min (suc e) (maxDep s t) ≡ min e (maxDep s t) = omega arith in
+      let a : suc e - pastDep s t ≡ suc (e - pastDep s t) = omega arith in
+      let b : pastDep s t + (e - pastDep s t) ≡ e = omega arith in
+      let d : min (suc e) (pastDep s t) ≡ min e (pastDep s t) = omega arith in
       rw (a, b, d)
 
   -- else the type
-  pub next-type : (t e : ℕ) → e ≤ maxDep s t → visits s (suc t) e ≡ at types t ∷ visits s t e
+  pub next-type : (t e : ℕ) → e ≤ pastDep s t → visits s (suc t) e ≡ at types t ∷ visits s t e
   unfolding visits falling
   next-type t e l =
-      let a : e - maxDep s t ≡ 0 = omega arith in
-      let d : min e (maxDep s t) ≡ e = omega arith in
+      let a : e - pastDep s t ≡ 0 = omega arith in
+      let d : min e (pastDep s t) ≡ e = omega arith in
       rw (a, d)
 
   -- and with no type left, the rest
@@ -228,6 +228,6 @@ module _ (s : Areas) where
   unfolding visits
   visits-length zero e = falling-length 0 e ∙ sym (zero-add e)
   visits-length (suc t) e =
-      length-append (falling (maxDep s t) (e - maxDep s t)) (at types t ∷ visits s t (min e (maxDep s t)))
-      ∙ ap₂ (λ p q. p + suc q) (falling-length (maxDep s t) (e - maxDep s t)) (visits-length t (min e (maxDep s t)))
+      length-append (falling (pastDep s t) (e - pastDep s t)) (at types t ∷ visits s t (min e (pastDep s t)))
+      ∙ ap₂ (λ p q. p + suc q) (falling-length (pastDep s t) (e - pastDep s t)) (visits-length t (min e (pastDep s t)))
       ∙ omega arith

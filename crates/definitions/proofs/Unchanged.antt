@@ -25,7 +25,7 @@ outcome-accepted s p keep t = ap (outcomeOf s p (kept s keep)) (accepted-is (che
 pub record Refused (s : Areas) (p : Maps) (nr a h : ℕ) (r : Outcome) : Type 0 where
   pub its-number : r .number ≡ nr
   pub its-area : r .area ≡ a
-  pub its-record : r .record′ ≡ h
+  pub its-record : r .recordNumber ≡ h
   pub no-counts : r .counts ≡ 0 ∷ 0 ∷ 0 ∷ 0 ∷ 0 ∷ 0 ∷ 0 ∷ []
   pub same-areas : r .areas ≡ s
   pub same-maps : r .maps ≡ p

@@ -44,12 +44,12 @@ pub data Arena : Type 0 where
   types constants overrides globals expressions : Arena
 
 -- an arena's area number
-unfoldable pub number : Arena → ℕ
-number types = 0
-number constants = 1
-number overrides = 2
-number globals = 3
-number expressions = 4
+unfoldable pub areaNumber : Arena → ℕ
+areaNumber types = 0
+areaNumber constants = 1
+areaNumber overrides = 2
+areaNumber globals = 3
+areaNumber expressions = 4
 
 -- the arena of an area number; check 4 sees that a mention's is below 5
 unfoldable pub numbered : ℕ → Arena
@@ -131,4 +131,4 @@ pub data Elem : Type 0 where
 
 -- are they one element ?
 unfoldable pub same : Elem → Elem → Bool
-same (at a h) (at b k) = eqb (number a) (number b) && eqb h k
+same (at a h) (at b k) = eqb (areaNumber a) (areaNumber b) && eqb h k

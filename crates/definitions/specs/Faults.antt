@@ -6,7 +6,7 @@ use mathlib.Core.List.{List}
 use Prim.Native.Nat.{ℕ, _+_, _%_, _≤_, _<_}
 use lib.ListN.{length, getD}
 use lib.Dec.{T}
-use Rattle.definitions.specs.Areas.{N, Arena, types, overrides, expressions, Areas, Elem, at, number, numbered, width, widths, limits, lengthOf, recordsOf, size, word, pool, mentionCount, mentionWord}
+use Rattle.definitions.specs.Areas.{N, Arena, types, overrides, expressions, Areas, Elem, at, areaNumber, numbered, width, widths, limits, lengthOf, recordsOf, size, word, pool, mentionCount, mentionWord}
 use Rattle.definitions.specs.Slots.{Slot, unused, free, below, must, may, start, layout}
 use Rattle.definitions.specs.References.{span, run, references}
 use Rattle.definitions.specs.Order.{behind}
@@ -63,7 +63,7 @@ pub data Fault (s : Areas) (maps : List ℕ) : ℕ → ℕ → ℕ → Type 0 wh
   -- 3 "a map area is shorter than its arena's record count"; "for 3 the area is the map's arena"
   shortMap : {a : ℕ} → a < 5 → getD maps a 0 < recordsOf s a → Fault s maps 3 a 0
   -- 4 "a kind, flag, form, [..] unused slot or pool run breaks the rules above"
-  misshapen : (a : Arena) {h : ℕ} (k : ℕ) → h < size s a → k < width a → Misshapen s a h (slotAt s a h k) (word s a h k) → Fault s maps 4 (number a) h
+  misshapen : (a : Arena) {h : ℕ} (k : ℕ) → h < size s a → k < width a → Misshapen s a h (slotAt s a h k) (word s a h k) → Fault s maps 4 (areaNumber a) h
   -- "A pool longer than its runs is 4 at the pool, record 0."
   longMembers : runsBefore s types (size s types) < length (pool s types) → Fault s maps 4 5 0
   longComponents : runsBefore s expressions (size s expressions) < length (pool s expressions) → Fault s maps 4 6 0
@@ -72,12 +72,12 @@ pub data Fault (s : Areas) (maps : List ℕ) : ℕ → ℕ → ℕ → Type 0 wh
   -- 5 "expression kind 13 or 27"
   outOfScope : {h : ℕ} → h < size s expressions → (word s expressions h 0 ≡ 13) ⊎ (word s expressions h 0 ≡ 27) → Fault s maps 5 4 h
   -- 6 "a handle that must be there is N, or any handle isn't below its area's record count"
-  missing : (a : Arena) {h : ℕ} (k : ℕ) → h < size s a → k < width a → Missing s (slotAt s a h k) (word s a h k) → Fault s maps 6 (number a) h
+  missing : (a : Arena) {h : ℕ} (k : ℕ) → h < size s a → k < width a → Missing s (slotAt s a h k) (word s a h k) → Fault s maps 6 (areaNumber a) h
   -- "A fault in a pool's handle is charged to the record that owns the run."
-  missingInRun : (a : Arena) {h : ℕ} (i : ℕ) → h < size s a → i < length (run s a h) → Absent s a (getD (run s a h) i 0) → Fault s maps 6 (number a) h
+  missingInRun : (a : Arena) {h : ℕ} (i : ℕ) → h < size s a → i < length (run s a h) → Absent s a (getD (run s a h) i 0) → Fault s maps 6 (areaNumber a) h
   missingMention : {h : ℕ} → h < mentionCount s → Absent s (numbered (mentionWord s h 0)) (mentionWord s h 1) → Fault s maps 6 7 h
   -- 7 "a type or expression isn't well ordered"
-  misplaced : (a : Arena) {h : ℕ} (y : Elem) → h < size s a → Leads s (at a h) y → Misplaced s (at a h) y → Fault s maps 7 (number a) h
+  misplaced : (a : Arena) {h : ℕ} (y : Elem) → h < size s a → Leads s (at a h) y → Misplaced s (at a h) y → Fault s maps 7 (areaNumber a) h
 
 -- "numbers 1 to 7 in turn and, within one number, [..] area order, lowest record first": the first place comes no later than the second
 abbrev pub NoLater : ℕ → ℕ → ℕ → ℕ → ℕ → ℕ → Type 0

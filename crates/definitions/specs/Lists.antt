@@ -5,8 +5,8 @@ use mathlib.Core.List.{List, [], _∷_, _++_}
 use Prim.Native.Nat.{ℕ, zero, suc, _+_}
 
 -- every number passes
-abbrev pub any : ℕ → Bool
-any h = true
+abbrev pub always : ℕ → Bool
+always h = true
 
 -- the sum of g over those of the first h numbers that pass
 unfoldable pub total : (ℕ → Bool) → (ℕ → ℕ) → ℕ → ℕ

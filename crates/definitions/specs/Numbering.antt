@@ -4,7 +4,7 @@ use mathlib.Core.Bool.{Bool, cond}
 use mathlib.Core.List.{List, [], _∷_, _++_}
 use Prim.Native.Nat.{ℕ}
 use lib.ListN.{drop}
-use Rattle.definitions.specs.Lists.{total, gather, any}
+use Rattle.definitions.specs.Lists.{total, gather, always}
 use Rattle.definitions.specs.Areas.{Words, N, Arena, Areas, Elem, at, size}
 use Rattle.definitions.specs.Sweep.{has}
 
@@ -13,12 +13,12 @@ unfoldable pub rank : (ℕ → Bool) → ℕ → ℕ
 rank p h = total p (λ _. 1) h
 
 -- "A map holds the new handle or N at each old record": the word at record h
-unfoldable pub place : (ℕ → Bool) → ℕ → ℕ
-place p h = cond (p h) (rank p h) N
+unfoldable pub newHandle : (ℕ → Bool) → ℕ → ℕ
+newHandle p h = cond (p h) (rank p h) N
 
 -- the map of the first h records
 unfoldable pub mapUpTo : (ℕ → Bool) → ℕ → Words
-mapUpTo p h = gather any (λ i. place p i ∷ []) h
+mapUpTo p h = gather always (λ i. newHandle p i ∷ []) h
 
 -- is record h of the arena among the marks ?
 abbrev pub isKept : List Elem → Arena → ℕ → Bool
@@ -26,7 +26,7 @@ isKept m a h = has m (at a h)
 
 -- an element at its new place
 unfoldable pub moved : List Elem → Elem → Elem
-moved m (at a h) = at a (place (isKept m a) h)
+moved m (at a h) = at a (newHandle (isKept m a) h)
 
 -- "words past that stay"
 unfoldable pub mapAfter : Areas → List Elem → Arena → Words → Words

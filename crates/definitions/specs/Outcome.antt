@@ -34,7 +34,7 @@ lengths p = length (p .types) ∷ length (p .constants) ∷ length (p .overrides
 pub record Outcome : Type 0 where
   pub number : ℕ
   pub area : ℕ
-  pub record′ : ℕ
+  pub recordNumber : ℕ
   pub counts : List ℕ
   pub areas : Areas
   pub maps : Maps
@@ -65,9 +65,9 @@ mapsAfter s m p =
 -- the outcome by the verdict: "Accepted: number, area and record are 0."; refused: "It reports number, area, record. [..] The seven kept
 -- counts are 0. No area or map changes."
 unfoldable pub outcomeOf : Areas → Maps → List Elem → Verdict → Outcome
-outcomeOf s p m accepted = record { number = 0; area = 0; record′ = 0; counts = keptCounts s m; areas = areasAfter s m; maps = mapsAfter s m p }
+outcomeOf s p m accepted = record { number = 0; area = 0; recordNumber = 0; counts = keptCounts s m; areas = areasAfter s m; maps = mapsAfter s m p }
 outcomeOf s p m (refused nr a h) =
-    record { number = nr; area = a; record′ = h; counts = 0 ∷ 0 ∷ 0 ∷ 0 ∷ 0 ∷ 0 ∷ 0 ∷ []; areas = s; maps = p }
+    record { number = nr; area = a; recordNumber = h; counts = 0 ∷ 0 ∷ 0 ∷ 0 ∷ 0 ∷ 0 ∷ 0 ∷ []; areas = s; maps = p }
 
 -- the outcome of a pass; the flag is true for `KeepUnused::Yes`
 unfoldable pub outcome : Areas → Maps → Bool → Outcome

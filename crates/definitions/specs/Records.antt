@@ -1,13 +1,15 @@
 -- Document 01, "Refusal numbers", the accepted module: records, pools, mentions and fill after. Each is given for the first h records, by h.
 -- Assumes nothing.
+use mathlib.Core.Bool.{cond}
 use mathlib.Core.List.{List, [], _∷_, _++_, map}
 use Prim.Native.Nat.{ℕ, suc, _-_}
 use lib.ListN.{length, replicate}
-use Rattle.definitions.specs.Lists.{total, gather, any}
+use lib.Dec.{eqb}
+use Rattle.definitions.specs.Lists.{total, gather, always}
 use Rattle.definitions.specs.Areas.{Words, N, Arena, types, constants, overrides, globals, expressions, Areas, Elem, numbered, size, word, mentionCount, mentionWord}
 use Rattle.definitions.specs.Slots.{Slot, unused, free, below, must, may, start, count, layout}
 use Rattle.definitions.specs.References.{span, run}
-use Rattle.definitions.specs.Numbering.{place, isKept}
+use Rattle.definitions.specs.Numbering.{newHandle, isKept}
 
 -- "Kept runs have new packed starts.": the counts of the kept records before record h
 unfoldable pub startAfter : Areas → List Elem → Arena → ℕ → ℕ
@@ -18,8 +20,8 @@ unfoldable pub adjusted : List Elem → ℕ → Slot → ℕ → ℕ
 adjusted m b unused w = w
 adjusted m b free w = w
 adjusted m b (below n) w = w
-adjusted m b (must a) w = place (isKept m a) w
-adjusted m b (may a) w = place (isKept m a) w
+adjusted m b (must a) w = newHandle (isKept m a) w
+adjusted m b (may a) w = cond (eqb w N) N (newHandle (isKept m a) w)
 adjusted m b start w = b
 adjusted m b count w = w
 
@@ -38,14 +40,14 @@ recordsUpTo s m a h = gather (isKept m a) (recordAfter s m a) h
 
 -- and their runs
 unfoldable pub runsUpTo : Areas → List Elem → Arena → ℕ → Words
-runsUpTo s m a h = gather (isKept m a) (λ i. map (place (isKept m a)) (run s a i)) h
+runsUpTo s m a h = gather (isKept m a) (λ i. map (newHandle (isKept m a)) (run s a i)) h
 
 -- "Mentions are adjusted in place."
 unfoldable pub mentionAfter : Areas → List Elem → ℕ → Words
-mentionAfter s m h = mentionWord s h 0 ∷ place (isKept m (numbered (mentionWord s h 0))) (mentionWord s h 1) ∷ []
+mentionAfter s m h = mentionWord s h 0 ∷ newHandle (isKept m (numbered (mentionWord s h 0))) (mentionWord s h 1) ∷ []
 
 unfoldable pub mentionsUpTo : Areas → List Elem → ℕ → Words
-mentionsUpTo s m h = gather any (mentionAfter s m) h
+mentionsUpTo s m h = gather always (mentionAfter s m) h
 
 -- what was kept, and no more: the input of a second pass
 unfoldable pub keptAreas : Areas → List Elem → Areas

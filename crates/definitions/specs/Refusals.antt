@@ -5,8 +5,8 @@ use mathlib.Core.List.{List, [], _∷_}
 use Prim.Native.Nat.{ℕ, zero, suc, _+_, _%_}
 use lib.ListN.{length, getD}
 use lib.Dec.{eqb, ltb, leb}
-use Rattle.definitions.specs.Lists.{total, any, all}
-use Rattle.definitions.specs.Areas.{N, Arena, types, constants, overrides, globals, expressions, Areas, Elem, at, number, widths, limits, lengthOf, recordsOf, size, word, pool, mentionCount, mentionWord}
+use Rattle.definitions.specs.Lists.{total, always, all}
+use Rattle.definitions.specs.Areas.{N, Arena, types, constants, overrides, globals, expressions, Areas, Elem, at, areaNumber, widths, limits, lengthOf, recordsOf, size, word, pool, mentionCount, mentionWord}
 use Rattle.definitions.specs.Slots.{Slot, unused, free, below, must, may, start, count, layout}
 use Rattle.definitions.specs.References.{span, run}
 use Rattle.definitions.specs.Roots.{mention}
@@ -38,7 +38,7 @@ scanAreas nr ok n = scan ok (λ a. refused nr a 0) 0 n
 
 -- the records of an arena under a number
 unfoldable pub scanRecords : ℕ → (Areas → Arena → ℕ → Bool) → Areas → Arena → Verdict
-scanRecords nr ok s a = scan (ok s a) (refused nr (number a)) 0 (size s a)
+scanRecords nr ok s a = scan (ok s a) (refused nr (areaNumber a)) 0 (size s a)
 
 -- the mentions, area 7, under a number
 unfoldable pub scanMentions : ℕ → (ℕ → Bool) → Areas → Verdict
@@ -63,7 +63,7 @@ every p f k (l ∷ ls) = p l (f k) && every p f (suc k) ls
 
 -- "the sum of the counts before it in that area"
 unfoldable pub runsBefore : Areas → Arena → ℕ → ℕ
-runsBefore s a h = total any (span s a) h
+runsBefore s a h = total always (span s a) h
 
 -- 4 "a kind, flag, form, mention area, unused slot or pool run breaks the rules above"; "Pool runs are packed: each start is the sum of the
 -- counts before it in that area, start plus count stays within the pool": a word of record h

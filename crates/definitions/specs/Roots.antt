@@ -4,7 +4,7 @@ use mathlib.Core.Bool.{Bool, true, false, _&&_, not}
 use mathlib.Core.List.{List, [], _++_, map}
 use Prim.Native.Nat.{ℕ, _/_, _%_}
 use lib.Dec.{eqb}
-use Rattle.definitions.specs.Lists.{any, countUp, select}
+use Rattle.definitions.specs.Lists.{always, countUp, select}
 use Rattle.definitions.specs.Areas.{Arena, types, constants, overrides, globals, Areas, Elem, at, numbered, size, word, mentionCount, mentionWord}
 
 -- the elements of an arena that pass a test
@@ -36,7 +36,7 @@ commonRoots s = map (mention s) (countUp 0 (mentionCount s)) ++ those s constant
 
 -- "With `KeepUnused::Yes` also: every global, every named override, every named type."
 unfoldable pub moreRoots : Areas → Bool → List Elem
-moreRoots s true = those s globals any ++ those s overrides (namedOverride s) ++ those s types (isNamed s)
+moreRoots s true = those s globals always ++ those s overrides (namedOverride s) ++ those s types (isNamed s)
 moreRoots s false = []
 
 -- the roots; the flag is true for `KeepUnused::Yes`

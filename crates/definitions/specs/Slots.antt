@@ -42,8 +42,8 @@ abbrev three : List Slot
 three = must expressions ∷ two
 
 -- "Check 4 passes over them and doesn't read their slots."
-abbrev nine : List Slot
-nine = free ∷ free ∷ free ∷ free ∷ free ∷ free ∷ free ∷ free ∷ free ∷ []
+abbrev unread : List Slot
+unread = free ∷ free ∷ free ∷ free ∷ free ∷ free ∷ free ∷ free ∷ free ∷ []
 
 -- x and y of an `ImageSample`, by its level form
 unfoldable pub levelSlots : List (List Slot)
@@ -74,7 +74,7 @@ exprSlots form =
     ∷ (must types ∷ start ∷ count ∷ [])  -- 8 `Compose`: type, pool start, pool count
     ∷ two  -- 9 `Access`
     ∷ one ∷ one ∷ one  -- 10 `AccessIndex` 11 `Splat` 12 `Swizzle`
-    ∷ nine  -- 13 `GlobalVariable`: not at module scope
+    ∷ unread  -- 13 `GlobalVariable`: not at module scope
     ∷ one  -- 14 `Load`
     ∷ (three ++ (may expressions ∷ may expressions ∷ below 5 ∷ []) ++ getD levelSlots form (unused ∷ unused ∷ []) ++ (may expressions ∷ []))  -- 15 `ImageSample`
     ∷ (two ++ (may expressions ∷ may expressions ∷ may expressions ∷ []))  -- 16 `ImageLoad`
@@ -85,7 +85,7 @@ exprSlots form =
     ∷ one ∷ one  -- 22 `Derivative` 23 `Relational`
     ∷ (one ++ (may expressions ∷ may expressions ∷ may expressions ∷ []))  -- 24 `Math`
     ∷ one ∷ one  -- 25 `As` 26 `ArrayLength`
-    ∷ nine  -- 27 `CallResult`: not at module scope
+    ∷ unread  -- 27 `CallResult`: not at module scope
     ∷ (must types ∷ []) ∷ (must types ∷ []) ∷ (must types ∷ [])  -- 28 `AtomicResult` 29 `WorkGroupUniformLoadResult` 30 `SubgroupOperationResult`
     ∷ one  -- 31 `RayQueryGetIntersection`
     ∷ two  -- 32 `CooperativeLoad`

@@ -12,7 +12,7 @@ use native.Mathlib.Omega.{arith}
 use lib.Dec.{T, eqb, ltb, lt→ltb, ltb→lt}
 use lib.ListN.{length, getD}
 use borrow.Author.Tests.{lt-ltb, le-ltb, eqb-true, ne-eqb, eq-eqb}
-use Rattle.definitions.specs.Lists.{all, any, total}
+use Rattle.definitions.specs.Lists.{all, always, total}
 use Rattle.definitions.specs.Areas.{Words, Areas, Arena, types, expressions, areasOf, numbered, words, word, size, width, pool, mentionCount, mentionWidth}
 use Rattle.definitions.specs.Slots.{body}
 use Rattle.definitions.specs.References.{span, run}
@@ -30,7 +30,7 @@ use Rattle.rules.specs.declared.Sizes.{Sizes}
 use Rattle.rules.specs.Rules.{sizeIn, sizesOf, within, goodBy, leading}
 use Rattle.rules.proofs.Laws.{size-in, leading-le}
 use Rattle.rules.proofs.AtOnce.{Enough, good-keeps, good-kind}
-use Rattle.faults.specs.Faults.{Measured, most, limitsAt, boundsAt, looksAt, okAt, carriedAt, carriedTo, placesIn, placesAt, ownerOf, ok4, inTurn, scanArea, Passed, Used}
+use Rattle.faults.specs.Checking.{Measured, most, limitsAt, boundsAt, looksAt, okAt, carriedAt, carriedTo, placesIn, placesAt, ownerOf, ok4, inTurn, scanArea, Passed, Used}
 use Rattle.faults.proofs.Scans.{all-accepted, turns-accepted}
 use Rattle.faults.proofs.Arenas.{five, pools, words-at, start, run-at, room-le}
 use Rattle.faults.proofs.Tests.{looks-five, seven-looks, records, looks-there, pool-four, mention-four-six, record-four, record-six, record-seven, kind-other, mention-area, mention-handle}
@@ -179,7 +179,7 @@ module _ (s : Areas) where
   -- the counts
   pub counted-on : (a : Arena) (i : ℕ) {sum d r : ℕ} → sum ≡ min (runsBefore s a i) most → d ≡ span s a i → r ≡ min (sum + d) most → r ≡ min (runsBefore s a (i + 1)) most
   unfolding runsBefore total
-  counted-on a i p q e = rw (e, p, q, add-one) (go (total any (span s a) i) (span s a i))
+  counted-on a i p q e = rw (e, p, q, add-one) (go (total always (span s a) i) (span s a i))
     where
       go : (r d : ℕ) → min (min r most + d) most ≡ min (r + d) most
       go r d = omega arith

@@ -9,14 +9,14 @@ use native.Mathlib.Numerals.{add-one}
 use native.Mathlib.Omega.{arith}
 use lib.Dec.{eqb, ltb, leb}
 use borrow.Author.Tests.{lt-ltb, le-ltb, ne-eqb}
-use Rattle.definitions.specs.Lists.{total, any}
+use Rattle.definitions.specs.Lists.{total, always}
 use Rattle.definitions.specs.Areas.{Areas, types, areasOf, numbered, size}
 use Rattle.definitions.specs.References.{span}
 use Rattle.definitions.specs.Refusals.{runsBefore}
 use Rattle.rules.specs.Rules.{leading}
 use Rattle.rules.proofs.Laws.{sized-part, leading-on}
 use Rattle.faults.specs.declared.places.Carried.{Carried}
-use Rattle.faults.specs.Faults.{most, carriedAt, carriedTo}
+use Rattle.faults.specs.Checking.{most, carriedAt, carriedTo}
 
 -- nothing is carried
 abbrev pub nothing : Carried
@@ -70,7 +70,7 @@ module _ (s : Areas) where
   counts n a zero v d before e l k p q t = absurd (omega arith)
   counts n a (suc i) v d before e l k p q t =
       let z : suc i - 1 ≡ i = omega arith in
-      rw (q, p, t, z, e, lt-ltb a 5 l) (ap (λ m. record { sum = m; types = 0 }) (go (total any (span s (numbered a)) i) (span s (numbered a) i)))
+      rw (q, p, t, z, e, lt-ltb a 5 l) (ap (λ m. record { sum = m; types = 0 }) (go (total always (span s (numbered a)) i) (span s (numbered a) i)))
     where
       go : (r d : ℕ) → min (min r most + d) most ≡ min (r + d) most
       go r d = omega arith

@@ -10,7 +10,7 @@ use borrow.Author.Tests.{ne-eqb}
 use Rattle.definitions.specs.Lists.{all}
 use Rattle.definitions.specs.Areas.{width, widths, limits}
 use Rattle.definitions.proofs.Judged.{all-at}
-use Rattle.faults.specs.Faults.{areaOk, areasAt}
+use Rattle.faults.specs.Checking.{areaOk, areasAt}
 
 -- numbers 1 and 2 look at all areas
 pub all-areas : (n : ℕ) → 1 ≤ n → n < 3 → areasAt n ≡ 8

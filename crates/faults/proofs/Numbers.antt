@@ -11,14 +11,14 @@ use lib.Dec.{T, ltb, leb, eqb→eq, leb→le}
 use lib.ListN.{length, getD}
 use borrow.Author.Tests.{lt-ltb, le-ltb}
 use Rattle.definitions.specs.Lists.{all}
-use Rattle.definitions.specs.Areas.{Areas, number, numbered, widths, limits, lengthOf, allWords, recordsOf}
+use Rattle.definitions.specs.Areas.{Areas, areaNumber, numbered, widths, limits, lengthOf, allWords, recordsOf}
 use Rattle.definitions.specs.Refusals.{Verdict, accepted, passes, scan, scanAreas, scanRecords, scanMentions, poolUsed, check1, check2, check3, check4, check5, check6, check7, check}
 use Rattle.definitions.proofs.Judged.{all-at}
 use Rattle.definitions.proofs.Accepted.{areas-all}
 use Rattle.faults.specs.declared.Fault.{Fault}
 use Rattle.faults.specs.declared.Verdict as code
 use Rattle.faults.specs.declared.Verdict.the-variants.{Accepted, Refused}
-use Rattle.faults.specs.Faults.{verdictOf, areaOk, areasAt, inTurn, scanArea, okAt, ok4, ok6, ownerOf, looksAt, placesIn, Measured}
+use Rattle.faults.specs.Checking.{verdictOf, areaOk, areasAt, inTurn, scanArea, okAt, ok4, ok6, ownerOf, looksAt, placesIn, Measured}
 use Rattle.faults.proofs.Scans.{first-on, first-stop, turn-open, turn-end, turns-accepted, none, also, skipped, last}
 
 -- the lengths of the eight areas
@@ -29,7 +29,7 @@ lengthsOf s =
 
 -- opens the places of every number
 opened : ℕ
-unfolding inTurn scanArea okAt ok4 ok6 ownerOf looksAt placesIn numbered number scan scanRecords scanMentions poolUsed
+unfolding inTurn scanArea okAt ok4 ok6 ownerOf looksAt placesIn numbered areaNumber scan scanRecords scanMentions poolUsed
 opened = 0
 
 -- no limit is above a pool's

@@ -6,7 +6,7 @@ use native.Mathlib.Omega.{arith}
 use Rattle.definitions.specs.Refusals as R
 use Rattle.faults.specs.declared.Verdict.{Verdict}
 use Rattle.faults.specs.declared.Verdict.the-variants.{Accepted, Refused}
-use Rattle.faults.specs.Faults.{verdictOf}
+use Rattle.faults.specs.Checking.{verdictOf}
 
 same-verdict : (r r′ : Verdict) → verdictOf r ≡ verdictOf r′ → r ≡ r′
 same-verdict Accepted Accepted e = refl

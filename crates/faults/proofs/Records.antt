@@ -23,7 +23,7 @@ use Rattle.rules.specs.Rules.{sizeIn, sizesOf, heldBy, within, asked, leading}
 use Rattle.rules.proofs.Laws.{held-by, shaped-by, ordered-list, leading-dep}
 use Rattle.slots.specs.Part.{part}
 use Rattle.slots.proofs.Laws.{behind-part}
-use Rattle.faults.specs.Faults.{boundsAt, most}
+use Rattle.faults.specs.Checking.{boundsAt, most}
 use Rattle.faults.proofs.Arenas.{five, pools, words-at, span-at, run-at, room-at}
 use Rattle.faults.proofs.Tests.{inside-by}
 

@@ -8,7 +8,7 @@ use native.Mathlib.Nat.{le-refl}
 use native.Mathlib.Numerals.{add-one}
 use native.Mathlib.Omega.{arith}
 use Rattle.definitions.specs.Refusals.{Verdict, accepted, refused, firstOf, scan}
-use Rattle.faults.specs.Faults.{inTurn}
+use Rattle.faults.specs.Checking.{inTurn}
 
 -- ---- a scan
 

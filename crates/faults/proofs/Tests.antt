@@ -10,7 +10,7 @@ use native.Mathlib.Omega.{arith}
 use lib.Dec.{eqb, ltb}
 use lib.ListN.{length, getD}
 use borrow.Author.Tests.{lt-ltb, le-ltb, eqb-true, ne-eqb}
-use Rattle.definitions.specs.Lists.{any, total}
+use Rattle.definitions.specs.Lists.{always, total}
 use Rattle.definitions.specs.Areas.{Areas, Arena, at, types, expressions, numbered, words, wordOf, word, size, pool, mentionWidth, mentionWord}
 use Rattle.definitions.specs.Order.{wellOrdered}
 use Rattle.definitions.specs.Slots.{must}
@@ -22,7 +22,7 @@ use Rattle.slots.proofs.Laws.{span-in}
 use Rattle.rules.specs.declared.Sizes.{Sizes}
 use Rattle.rules.specs.Rules.{sizeIn, sizesOf, heldBy}
 use Rattle.rules.proofs.Laws.{held-by}
-use Rattle.faults.specs.Faults.{ok4, ok6, okAt, ownerOf, looksAt, placesIn}
+use Rattle.faults.specs.Checking.{ok4, ok6, okAt, ownerOf, looksAt, placesIn}
 
 -- ---- where a number looks
 
@@ -132,17 +132,17 @@ module _ (s : Areas) where
     kind-other p = rw (e, ← q, ne-eqb k 13 p)
 
   -- the counts of the runs of an arena
-  counted : (b : Arena) (m : ℕ) → total any (λ h. spanIn b (wordOf (words s b) b h)) m ≡ runsBefore s b m
+  counted : (b : Arena) (m : ℕ) → total always (λ h. spanIn b (wordOf (words s b) b h)) m ≡ runsBefore s b m
   unfolding runsBefore word
-  counted b m = total-cong any _ _ m (λ h l t. sym (span-in s b h))
+  counted b m = total-cong always _ _ m (λ h l t. sym (span-in s b h))
 
   -- a pool
   module _ (n a i : ℕ) {r : Bool} (z : Sizes) (e : z ≡ sizesOf s) (q : n ≡ 4) where
-    pub members-used : a ≡ 5 → r ≡ eqb (total any (λ h. spanIn (numbered 0) (wordOf (s .types) (numbered 0) h)) (z .types)) (length (s .members)) → r ≡ okAt s n a i
+    pub members-used : a ≡ 5 → r ≡ eqb (total always (λ h. spanIn (numbered 0) (wordOf (s .types) (numbered 0) h)) (z .types)) (length (s .members)) → r ≡ okAt s n a i
     unfolding okAt ok4 ownerOf numbered words pool
     members-used p t = t ∙ rw (q, p, e) (ap (λ m. eqb m (length (s .members))) (counted types (size s types)))
 
-    pub components-used : a ≡ 6 → r ≡ eqb (total any (λ h. spanIn (numbered 4) (wordOf (s .expressions) (numbered 4) h)) (z .expressions)) (length (s .components)) → r ≡ okAt s n a i
+    pub components-used : a ≡ 6 → r ≡ eqb (total always (λ h. spanIn (numbered 4) (wordOf (s .expressions) (numbered 4) h)) (z .expressions)) (length (s .components)) → r ≡ okAt s n a i
     unfolding okAt ok4 ownerOf numbered words pool
     components-used p t = t ∙ rw (q, p, e) (ap (λ m. eqb m (length (s .components))) (counted expressions (size s expressions)))
 

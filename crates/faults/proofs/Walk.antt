@@ -10,7 +10,7 @@ use Rattle.definitions.specs.Areas.{Areas, mentionWidth, mentionCount}
 use Rattle.definitions.specs.Refusals.{Verdict, accepted, refused, firstOf, scan}
 use Rattle.rules.specs.Rules.{sizesOf}
 use Rattle.rules.specs.declared.Sizes.{Sizes}
-use Rattle.faults.specs.Faults.{inTurn, scanArea, okAt, placesAt, placesIn}
+use Rattle.faults.specs.Checking.{inTurn, scanArea, okAt, placesAt, placesIn}
 use Rattle.faults.proofs.Scans.{scan-whole, scan-on, scan-stop, scan-end, first-on, first-stop, turn-open, turn-end}
 
 module _ (s : Areas) (n : ℕ) where

@@ -1,1 +1,1 @@
-pub mod Faults
+pub mod Checking

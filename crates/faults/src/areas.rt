@@ -2,7 +2,7 @@
 ghost use mathlib.Core.Path.{_≡_};
 ghost use Prim.Native.Nat.{_<_};
 ghost use Rattle.definitions.specs.Refusals.{scanAreas};
-ghost use Rattle.faults.specs.Faults.{areaOk, areasAt, verdictOf};
+ghost use Rattle.faults.specs.Checking.{areaOk, areasAt, verdictOf};
 use crate::Fault;
 use crate::Verdict;
 

@@ -10,7 +10,7 @@ ghost use Rattle.definitions.specs.Slots.{body};
 ghost use Rattle.definitions.specs.Refusals.{accepted, every};
 ghost use Rattle.slots.specs.Codes.{wordsFrom, spanIn, runIn};
 ghost use Rattle.rules.specs.Rules.{sizesOf, goodBy, leading};
-ghost use Rattle.faults.specs.Faults.{Measured, limitsAt, Passed, Used, inTurn, scanArea};
+ghost use Rattle.faults.specs.Checking.{Measured, limitsAt, Passed, Used, inTurn, scanArea};
 use crate::places;
 use arena::Mention;
 use rules::Limits;

@@ -8,7 +8,7 @@ ghost use mathlib.Core.List.{[], _∷_};
 ghost use lib.ListN.{length};
 ghost use Rattle.definitions.specs.Areas.{areasOf};
 ghost use Rattle.definitions.specs.Refusals.{check};
-ghost use Rattle.faults.specs.Faults.{verdictOf};
+ghost use Rattle.faults.specs.Checking.{verdictOf};
 
 // Where a module breaks which rule.
 pub struct Fault {

@@ -8,7 +8,7 @@ ghost use Rattle.definitions.specs.Areas.{areasOf, numbered, words, pool};
 ghost use Rattle.definitions.specs.Order.{wellOrdered};
 ghost use Rattle.definitions.specs.Refusals.{runsBefore, shapedAt, heldAt};
 ghost use Rattle.rules.specs.Rules.{sizeIn, sizesOf, leading};
-ghost use Rattle.faults.specs.Faults.{Measured, verdictOf, boundsAt, most, looksAt, okAt, placesIn, placesAt, carriedAt, carriedTo, inTurn, scanArea};
+ghost use Rattle.faults.specs.Checking.{Measured, verdictOf, boundsAt, most, looksAt, okAt, placesIn, placesAt, carriedAt, carriedTo, inTurn, scanArea};
 use crate::Fault;
 use crate::Verdict;
 use arena::Constant;

@@ -8,7 +8,7 @@ use Rattle.definitions.specs.Areas.{Words}
 use Rattle.definitions.specs.Numbering.{rank}
 use Rattle.definitions.specs.MapEntries as Entries
 use Rattle.definitions.specs.MapEntries.{lookup, adjust, range}
-use Rattle.handle_map.specs.Answers.{adjusted, ranged}
+use Rattle.handle_map.specs.Answers.{adjustedOf, rangedOf}
 use Rattle.handle_map.specs.FromSet.{mapped}
 use Rattle.handle_map.specs.declared.Adjusted.{Adjusted}
 use Rattle.handle_map.specs.declared.Adjusted.the-variants.{To, PastEnd, Dropped}
@@ -22,7 +22,7 @@ read-back f back same r q a b = sym (same r) ∙ ap back (a ∙ sym b) ∙ same 
 adjusted-back : Entries.Adjusted → Adjusted
 adjusted-back x = cond (eqb (x .number) 0) (To (x .handle)) (cond (eqb (x .number) 8) PastEnd Dropped)
 
-adjusted-same : (r : Adjusted) → adjusted-back (adjusted r) ≡ r
+adjusted-same : (r : Adjusted) → adjusted-back (adjustedOf r) ≡ r
 unfolding adjusted-back
 adjusted-same (To h) = refl
 adjusted-same PastEnd = refl
@@ -31,7 +31,7 @@ adjusted-same Dropped = refl
 ranged-back : Entries.Ranged → Ranged
 ranged-back x = cond (eqb (x .number) 0) (Span (x .start) (x .end)) Refused
 
-ranged-same : (r : Ranged) → ranged-back (ranged r) ≡ r
+ranged-same : (r : Ranged) → ranged-back (rangedOf r) ≡ r
 unfolding ranged-back
 ranged-same (Span a b) = refl
 ranged-same Refused = refl
@@ -41,12 +41,12 @@ pub lookup-once : (map : Words) (h r q : ℕ) → r ≡ lookup map h → q ≡ l
 lookup-once map h = read-back (λ n. n) (λ n. n) (λ n. refl)
 
 -- `adjust`, `HandleMap::adjust`, `adjust_in`
-pub adjust-once : (map : Words) (h : ℕ) (r q : Adjusted) → adjusted r ≡ adjust map h → adjusted q ≡ adjust map h → r ≡ q
-adjust-once map h = read-back adjusted adjusted-back adjusted-same
+pub adjust-once : (map : Words) (h : ℕ) (r q : Adjusted) → adjustedOf r ≡ adjust map h → adjustedOf q ≡ adjust map h → r ≡ q
+adjust-once map h = read-back adjustedOf adjusted-back adjusted-same
 
 -- `adjust_range`, `HandleMap::adjust_range`, `adjust_range_in`
-pub adjust-range-once : (map : Words) (a b : ℕ) (r q : Ranged) → ranged r ≡ range map a b → ranged q ≡ range map a b → r ≡ q
-adjust-range-once map a b = read-back ranged ranged-back ranged-same
+pub adjust-range-once : (map : Words) (a b : ℕ) (r q : Ranged) → rangedOf r ≡ range map a b → rangedOf q ≡ range map a b → r ≡ q
+adjust-range-once map a b = read-back rangedOf ranged-back ranged-same
 
 -- `from_set`: the count and every word of the lent map
 pub from-set-once : (p : ℕ → Bool) (k : ℕ) (old : Words) (r q : ℕ) (m n : Words) → (r ≡ rank p k) × (m ≡ mapped p k old) → (q ≡ rank p k) × (n ≡ mapped p k old)

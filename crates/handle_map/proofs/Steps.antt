@@ -11,7 +11,7 @@ use lib.Dec.{eqb}
 use lib.Seq.{drop-cons, set-at}
 use Rattle.definitions.specs.Areas.{Words, N}
 use Rattle.definitions.specs.Lists.{total, gather}
-use Rattle.definitions.specs.Numbering.{rank, place, mapUpTo}
+use Rattle.definitions.specs.Numbering.{rank, newHandle, mapUpTo}
 use Rattle.definitions.proofs.Counts.{map-length}
 use Rattle.handle_map.specs.FromSet.{mapped}
 
@@ -35,18 +35,18 @@ module _ (p : ℕ → Bool) where
   unfolding rank total
   rank-step h = rw (add-one h) (counted (p h) (rank p h))
 
-  place-is : (h : ℕ) → place p h ≡ cond (eqb (cond (p h) 1 0) 0) N (rank p h)
-  unfolding place
+  place-is : (h : ℕ) → newHandle p h ≡ cond (eqb (cond (p h) 1 0) 0) N (rank p h)
+  unfolding newHandle
   place-is h = picked (p h) (rank p h)
 
   -- writing the place of h makes the map one longer
-  map-step : (old : Words) (h v : ℕ) → h < length old → v ≡ place p h → set (mapped p h old) h v ≡ mapped p (h + 1) old
+  map-step : (old : Words) (h v : ℕ) → h < length old → v ≡ newHandle p h → set (mapped p h old) h v ≡ mapped p (h + 1) old
   unfolding mapUpTo gather
   map-step old h v l e =
       ap (λ r. set (mapUpTo p h ++ r) h v) (drop-cons old h 0 l)
       ∙ set-at (mapUpTo p h) (getD old h 0) (drop (suc h) old) v h (map-length p h)
       ∙ ap (λ w. mapUpTo p h ++ w ∷ drop (suc h) old) e
-      ∙ sym (append-assoc (mapUpTo p h) (place p h ∷ []) (drop (suc h) old))
+      ∙ sym (append-assoc (mapUpTo p h) (newHandle p h ∷ []) (drop (suc h) old))
       ∙ ap (λ k. mapUpTo p k ++ drop k old) (sym (add-one h))
 
   -- what the loop keeps
@@ -67,7 +67,7 @@ module _ (p : ℕ → Bool) where
       → one ≡ cond (p h) 1 0 → v ≡ cond (eqb one 0) N next → Numbered old n (set new h v) (next + one) (h + 1)
   turn old new n next h one v i l f o e =
       let b : h < length old = omega (arith, i .same-size) in
-      let k : v ≡ place p h = e ∙ ap (λ m. cond (eqb m 0) N next) o ∙ ap (cond (eqb (cond (p h) 1 0) 0) N) (i .next-is) ∙ sym (place-is h) in
+      let k : v ≡ newHandle p h = e ∙ ap (λ m. cond (eqb m 0) N next) o ∙ ap (cond (eqb (cond (p h) 1 0) 0) N) (i .next-is) ∙ sym (place-is h) in
       record {
         h-le = omega arith;
         h-in = omega arith;

@@ -7,7 +7,7 @@ ghost use lib.Dec.{eqb};
 ghost use Rattle.definitions.specs.Areas.{N};
 ghost use Rattle.definitions.specs.Numbering.{rank};
 ghost use Rattle.definitions.specs.MapEntries.{lookup, adjust, live, last, spanned, range};
-ghost use Rattle.handle_map.specs.Answers.{adjusted, ranged};
+ghost use Rattle.handle_map.specs.Answers.{adjustedOf, rangedOf};
 ghost use Rattle.handle_map.specs.FromSet.{inSet, mapped};
 use arena::N;
 use arena::handle_set;
@@ -61,7 +61,7 @@ pub fn lookup(map: &[u32], handle: u32) -> u32
 
 // As `HandleMap::adjust`, which panics where this gives no handle.
 pub fn adjust(map: &[u32], handle: u32) -> Adjusted
-    ensures { λ r. ⌜ adjusted r ≡ adjust (now (map .entry)) handle ⌝ }
+    ensures { λ r. ⌜ adjustedOf r ≡ adjust (now (map .entry)) handle ⌝ }
 {
     let i = handle as usize;
     if i >= map.len() {
@@ -106,7 +106,7 @@ fn last_live(words: &[u32]) -> u32
 
 // From the first live word to the last one plus 1. A live word is below N, so the sum fits.
 fn span(words: &[u32]) -> Ranged
-    ensures { λ r. ⌜ ranged r ≡ spanned (live (now (words .entry))) ⌝ }
+    ensures { λ r. ⌜ rangedOf r ≡ spanned (live (now (words .entry))) ⌝ }
 {
     let first = first_live(words);
     if first == N {
@@ -119,7 +119,7 @@ fn span(words: &[u32]) -> Ranged
 
 // As `HandleMap::adjust_range`: a range shrunk to its live handles. Nothing is tested against the compacted arena.
 pub fn adjust_range(map: &[u32], start: u32, end: u32) -> Ranged
-    ensures { λ r. ⌜ ranged r ≡ range (now (map .entry)) start end ⌝ }
+    ensures { λ r. ⌜ rangedOf r ≡ range (now (map .entry)) start end ⌝ }
 {
     let from = start as usize;
     let to = end as usize;
@@ -145,13 +145,13 @@ impl<'a> HandleMap<'a> {
     }
 
     pub fn adjust(self, handle: u32) -> Adjusted
-        ensures { λ r. ⌜ adjusted r ≡ adjust (now (self .entry .map)) handle ⌝ }
+        ensures { λ r. ⌜ adjustedOf r ≡ adjust (now (self .entry .map)) handle ⌝ }
     {
         adjust(self.map, handle)
     }
 
     pub fn adjust_range(self, start: u32, end: u32) -> Ranged
-        ensures { λ r. ⌜ ranged r ≡ range (now (self .entry .map)) start end ⌝ }
+        ensures { λ r. ⌜ rangedOf r ≡ range (now (self .entry .map)) start end ⌝ }
     {
         adjust_range(self.map, start, end)
     }
@@ -165,13 +165,13 @@ pub fn get_in(words: &[u32], handle: u32) -> u32
 }
 
 pub fn adjust_in(words: &[u32], handle: u32) -> Adjusted
-    ensures { λ r. ⌜ adjusted r ≡ adjust (now (words .entry)) handle ⌝ }
+    ensures { λ r. ⌜ adjustedOf r ≡ adjust (now (words .entry)) handle ⌝ }
 {
     HandleMap { map: words }.adjust(handle)
 }
 
 pub fn adjust_range_in(words: &[u32], start: u32, end: u32) -> Ranged
-    ensures { λ r. ⌜ ranged r ≡ range (now (words .entry)) start end ⌝ }
+    ensures { λ r. ⌜ rangedOf r ≡ range (now (words .entry)) start end ⌝ }
 {
     HandleMap { map: words }.adjust_range(start, end)
 }

@@ -13,7 +13,7 @@ use Rattle.definitions.specs.Lists.{all}
 use Rattle.definitions.specs.Areas.{N, Arena, Areas, Elem, areasOf, at, types, constants, overrides, globals, expressions, width, words, word, size, pool}
 use Rattle.definitions.specs.Slots.{Slot, unused, free, below, must, may, start, count}
 use Rattle.definitions.specs.References.{span, namedBy, namedFrom}
-use Rattle.definitions.specs.Order.{behind, withBehind, sizedBy, maxDep}
+use Rattle.definitions.specs.Order.{behind, withBehind, sizedBy, pastDep}
 use Rattle.definitions.specs.Refusals.{every, runsBefore, shaped, inside, held}
 use Rattle.definitions.proofs.Kept.{sized-past}
 use Rattle.definitions.proofs.Tandem.{past-mono}
@@ -144,11 +144,11 @@ module _ (s : Areas) where
       go true q l r = r (omega arith)
       go false q l r = leb-false (sizedBy s t) e q
 
-  dep-le : (e u : ℕ) → ((v : ℕ) → v ≤ u → sizedBy s v ≤ e) → maxDep s u ≤ e
-  unfolding maxDep
+  dep-le : (e u : ℕ) → ((v : ℕ) → v ≤ u → sizedBy s v ≤ e) → pastDep s u ≤ e
+  unfolding pastDep
   dep-le e zero f = f zero (omega arith)
   dep-le e (suc u) f =
-      let h : maxDep s u ≤ e = dep-le e u (λ v l. f v (omega arith)) in
+      let h : pastDep s u ≤ e = dep-le e u (λ v l. f v (omega arith)) in
       let k : sizedBy s (suc u) ≤ e = f (suc u) (omega arith) in
       omega arith
 
@@ -159,17 +159,17 @@ module _ (s : Areas) where
 
   -- a type's dep is below e just where the type is leading, or all are; no words are left over past the last type
   pub leading-dep : length (s .types) % width types ≡ 0 → (e u : ℕ)
-      → leb (maxDep s u) e ≡ (eqb (leading s e 0 (size s types)) (size s types) || ltb u (leading s e 0 (size s types)))
+      → leb (pastDep s u) e ≡ (eqb (leading s e 0 (size s types)) (size s types) || ltb u (leading s e 0 (size s types)))
   leading-dep w e u = elim (decLe n t) [
     | yes a ↦
-        le-leb (maxDep s u) e (dep-le e u (λ v l. all-small a v))
+        le-leb (pastDep s u) e (dep-le e u (λ v l. all-small a v))
         ∙ sym (ap (λ b. b || ltb u t) (eq-eqb t n (omega (arith, leading-le e n))))
     | no a ↦ elim (decLe t u) [
       | yes b ↦
-          lt-leb (maxDep s u) e (omega (arith, stopped e n 0 (omega arith), sized-past s t, past-mono s u t b))
+          lt-leb (pastDep s u) e (omega (arith, stopped e n 0 (omega arith), sized-past s t, past-mono s u t b))
           ∙ sym (ap₂ _||_ (ne-eqb t n (λ q. omega arith)) (le-ltb u t b))
       | no b ↦
-          le-leb (maxDep s u) e (dep-le e u (λ v l. passed e n 0 v (omega arith) (omega arith)))
+          le-leb (pastDep s u) e (dep-le e u (λ v l. passed e n 0 v (omega arith) (omega arith)))
           ∙ sym (ap₂ _||_ (ne-eqb t n (λ q. omega arith)) (lt-ltb u t (omega arith)))
     ]
   ]

@@ -5,7 +5,7 @@ ghost use mathlib.Core.List.{[], _∷_};
 ghost use Prim.Native.Nat.{ℕ, suc, _-_, _<_};
 ghost use lib.Dec.{eqb, ltb};
 ghost use Rattle.definitions.specs.Areas.{Words, N, areasOf, numbered, width, wordOf, at, types, expressions};
-ghost use Rattle.definitions.specs.Lists.{all, any, total};
+ghost use Rattle.definitions.specs.Lists.{all, always, total};
 ghost use Rattle.definitions.specs.Slots.{unused, body, slots};
 ghost use Rattle.definitions.specs.References.{namedBy};
 ghost use Rattle.definitions.specs.Order.{withBehind, sizedBy};
@@ -417,7 +417,7 @@ pub fn all_below(run: &[u32], bound: u32) -> bool
 
 // Do the counts of the runs of the first n records of an arena add up to the pool's length ?
 pub fn pool_used(area: u32, ws: &[u32], n: u32, room: usize) -> bool
-    ensures { λ r. ⌜ r ≡ eqb (total any (λ h. spanIn (numbered area) (wordOf (now (ws .entry)) (numbered area) h)) n) room ⌝ }
+    ensures { λ r. ⌜ r ≡ eqb (total always (λ h. spanIn (numbered area) (wordOf (now (ws .entry)) (numbered area) h)) n) room ⌝ }
 {
     let width = slots::arena_width(area);
     let mut left = room;

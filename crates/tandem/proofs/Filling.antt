@@ -9,11 +9,11 @@ use native.Mathlib.Omega.{arith}
 use lib.ListN.{length, getD, set, length-set}
 use lib.Seq.{getD-set-same, getD-set-other}
 use Rattle.definitions.specs.Areas.{Areas}
-use Rattle.definitions.specs.Order.{sizedBy, maxDep}
+use Rattle.definitions.specs.Order.{sizedBy, pastDep}
 use Rattle.tandem.specs.Deps.{depBefore, Level}
 
 dep-suc : (s : Areas) (t : ℕ) → max (depBefore s t) (sizedBy s t) ≡ depBefore s (suc t)
-unfolding depBefore maxDep
+unfolding depBefore pastDep
 dep-suc s zero = omega arith
 dep-suc s (suc t) = refl
 

@@ -8,7 +8,7 @@ use native.Mathlib.Omega.{arith}
 use lib.ListN.{length, take, drop}
 use lib.Seq.{take-nil, drop-nil}
 use Rattle.definitions.specs.Areas.{Areas, at, numbered, types, expressions}
-use Rattle.definitions.specs.Order.{falling, maxDep, visits}
+use Rattle.definitions.specs.Order.{falling, pastDep, visits}
 use Rattle.definitions.proofs.Tandem.{next-expression, next-type, next-rest}
 use Rattle.arena.specs.HandleSet.{member, room}
 use Rattle.arena.specs.declared.handle_set.Bases.{Bases}
@@ -25,16 +25,16 @@ some-type s zero e q l p = absurd (omega arith)
 some-type s (suc t) e q l p = omega arith
 
 module _ (s : Areas) where
-  maxDep-part : (t : ℕ) → maxDep s t ≡ maxDep (sizing (s .types) (s .overrides)) t
-  unfolding maxDep
-  maxDep-part zero = sized-part s zero
-  maxDep-part (suc t) = ap₂ max (maxDep-part t) (sized-part s (suc t))
+  pastDep-part : (t : ℕ) → pastDep s t ≡ pastDep (sizing (s .types) (s .overrides)) t
+  unfolding pastDep
+  pastDep-part zero = sized-part s zero
+  pastDep-part (suc t) = ap₂ max (pastDep-part t) (sized-part s (suc t))
 
   -- dep looks at types and overrides alone
   dep-part : (t : ℕ) → depBefore s t ≡ depBefore (sizing (s .types) (s .overrides)) t
   unfolding depBefore
   dep-part zero = refl
-  dep-part (suc t) = maxDep-part t
+  dep-part (suc t) = pastDep-part t
 
   an-expression : (t e : ℕ) → depBefore s t ≤ e → visits s t (suc e) ≡ at expressions e ∷ visits s t e
   unfolding depBefore

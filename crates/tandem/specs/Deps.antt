@@ -5,7 +5,7 @@ use mathlib.Core.List.{List, []}
 use Prim.Native.Nat.{ℕ, zero, suc, _+_, _*_, _<_}
 use lib.ListN.{length, getD}
 use Rattle.definitions.specs.Areas.{Words, Areas, areasOf}
-use Rattle.definitions.specs.Order.{maxDep}
+use Rattle.definitions.specs.Order.{pastDep}
 
 -- the module of types and overrides alone, which is all that dep looks at
 abbrev pub sizing : Words → Words → Areas
@@ -14,7 +14,7 @@ sizing ts os = areasOf ts [] os [] [] [] [] []
 -- one more than the largest init among the overrides that size one of the first t types; 0 for none
 unfoldable pub depBefore : Areas → ℕ → ℕ
 depBefore s zero = 0
-depBefore s (suc t) = maxDep s t
+depBefore s (suc t) = pastDep s t
 
 -- 256 entries, and at each number that the level holds what f has there
 pub record Level (holds : ℕ → Type 0) (f : ℕ → ℕ) (l : List ℕ) : Type 0 where

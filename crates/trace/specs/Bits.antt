@@ -6,7 +6,7 @@ use mathlib.Core.List.{List, [], _∷_, _++_, map}
 use Prim.Native.Nat.{ℕ}
 use lib.ListN.{length}
 use lib.Dec.{eqb, ltb}
-use Rattle.definitions.specs.Lists.{any, countUp, select}
+use Rattle.definitions.specs.Lists.{always, countUp, select}
 use Rattle.definitions.specs.Areas.{Areas, Arena, Elem, at, size, mentionCount}
 use Rattle.definitions.specs.References.{references}
 use Rattle.definitions.specs.Roots.{mention, isNamed, rootConstant, namedOverride}
@@ -55,7 +55,7 @@ unfoldable pub rootIn : Areas → Arena → ℕ → Bool
 rootIn s Arena.types = isNamed s
 rootIn s Arena.constants = rootConstant s
 rootIn s Arena.overrides = namedOverride s
-rootIn s Arena.globals = any
+rootIn s Arena.globals = always
 rootIn s Arena.expressions = λ h. false
 
 -- how many records the arenas with roots have, and how many mentions there are

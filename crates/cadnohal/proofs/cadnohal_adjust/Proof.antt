@@ -1,5 +1,5 @@
 use mathlib.Core.Path.{ap, sym, _∙_}
-use Rattle.handle_map.specs.Answers.{adjusted}
+use Rattle.handle_map.specs.Answers.{adjustedOf}
 use borrow.Author.Needs.{needs}
 use Rattle.cadnohal.proofs.cadnohal_adjust.Statement.{statement}
 use Rattle.cadnohal.proofs.cadnohal_adjust.Tie as tie
@@ -25,15 +25,15 @@ enum-told-2 c = search needs
 
 -- src/lib.rt:195:1
 returns : tie.Need-returns
-returns c = ap adjusted (sym (c .before .h .given .1)) ∙ c .before .before .before .adjust .ensures
+returns c = ap adjustedOf (sym (c .before .h .given .1)) ∙ c .before .before .before .adjust .ensures
 
 -- src/lib.rt:195:1
 returns-2 : tie.Need-returns-2
-returns-2 c = ap adjusted (sym (c .enum-told .given .1)) ∙ c .before .before .adjust .ensures
+returns-2 c = ap adjustedOf (sym (c .enum-told .given .1)) ∙ c .before .before .adjust .ensures
 
 -- src/lib.rt:195:1
 returns-3 : tie.Need-returns-3
-returns-3 c = ap adjusted (sym (c .enum-told2 .given .1)) ∙ c .before .before .adjust .ensures
+returns-3 c = ap adjustedOf (sym (c .enum-told2 .given .1)) ∙ c .before .before .adjust .ensures
 
 pub cadnohal-adjust-spec : {M : Type 1} → statement M
 cadnohal-adjust-spec =

@@ -1,5 +1,5 @@
 use mathlib.Core.Path.{ap, sym, _∙_}
-use Rattle.handle_map.specs.Answers.{ranged}
+use Rattle.handle_map.specs.Answers.{rangedOf}
 use borrow.Author.Needs.{needs}
 use Rattle.cadnohal.proofs.cadnohal_adjust_range.Statement.{statement}
 use Rattle.cadnohal.proofs.cadnohal_adjust_range.Tie as tie
@@ -21,11 +21,11 @@ enum-told c = search needs
 
 -- src/lib.rt:207:1
 returns : tie.Need-returns
-returns c = ap ranged (sym (c .before .a .given .1)) ∙ c .before .before .before .adjust-range .ensures
+returns c = ap rangedOf (sym (c .before .a .given .1)) ∙ c .before .before .before .adjust-range .ensures
 
 -- src/lib.rt:207:1
 returns-2 : tie.Need-returns-2
-returns-2 c = ap ranged (sym (c .enum-told .given .1)) ∙ c .before .before .adjust-range .ensures
+returns-2 c = ap rangedOf (sym (c .enum-told .given .1)) ∙ c .before .before .adjust-range .ensures
 
 pub cadnohal-adjust-range-spec : {M : Type 1} → statement M
 cadnohal-adjust-range-spec =

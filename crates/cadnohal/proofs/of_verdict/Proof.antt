@@ -1,5 +1,5 @@
 use mathlib.Core.Path.{ap, sym, _∙_}
-use Rattle.faults.specs.Faults.{verdictOf}
+use Rattle.faults.specs.Checking.{verdictOf}
 use Rattle.cadnohal.specs.Boundary.{answerTo}
 use borrow.Author.Needs.{needs}
 use Rattle.cadnohal.proofs.of_verdict.Statement.{statement}

@@ -9,7 +9,7 @@ use native.Mathlib.Omega.{arith}
 use lib.Dec.{eqb}
 use borrow.Author.Needs.{needs}
 use borrow.Author.Tests.{eq-eqb, ne-eqb}
-use Rattle.definitions.specs.Lists.{any, total}
+use Rattle.definitions.specs.Lists.{always, total}
 use Rattle.definitions.specs.Areas.{Words, numbered, width, wordOf}
 use Rattle.definitions.proofs.ListLaws.{total-step, total-mono}
 use Rattle.slots.specs.Codes.{wordsFrom, spanIn}
@@ -25,22 +25,22 @@ counts area ws h = spanIn (numbered area) (wordOf ws (numbered area) h)
 counted : (area : ℕ) (ws : Words) (i : ℕ) {w k : ℕ} → w ≡ width (numbered area) → k ≡ spanIn (numbered area) (wordsFrom ws (i * w)) → k ≡ counts area ws i
 counted area ws i e q = q ∙ ap (spanIn (numbered area)) (place-words ws (numbered area) i e)
 
-module _ (g : ℕ → ℕ) (left i n room : ℕ) (whole : left + total any g i ≡ room) where
+module _ (g : ℕ → ℕ) (left i n room : ℕ) (whole : left + total always g i ≡ room) where
   -- a count that is more than what is left
-  too-many : {k : ℕ} → i < n → k ≡ g i → left < k → false ≡ eqb (total any g n) room
-  too-many h e l = sym (ne-eqb (total any g n) room (λ q. omega (arith, total-mono any g n (suc i) h, total-step any g i tt)))
+  too-many : {k : ℕ} → i < n → k ≡ g i → left < k → false ≡ eqb (total always g n) room
+  too-many h e l = sym (ne-eqb (total always g n) room (λ q. omega (arith, total-mono always g n (suc i) h, total-step always g i tt)))
 
-  turn : {k : ℕ} → k ≡ g i → k ≤ left → left - k + total any g (i + 1) ≡ room
-  turn e l = rw add-one (omega (arith, total-step any g i tt))
+  turn : {k : ℕ} → k ≡ g i → k ≤ left → left - k + total always g (i + 1) ≡ room
+  turn e l = rw add-one (omega (arith, total-step always g i tt))
 
-  done : i ≡ n → eqb left 0 ≡ eqb (total any g n) room
+  done : i ≡ n → eqb left 0 ≡ eqb (total always g n) room
   done e = elim (decLe left 0) [
-    | yes h ↦ eq-eqb left 0 (omega arith) ∙ sym (eq-eqb (total any g n) room (omega (arith, ap (total any g) e)))
-    | no h ↦ ne-eqb left 0 (λ q. omega arith) ∙ sym (ne-eqb (total any g n) room (λ q. omega (arith, ap (total any g) e)))
+    | yes h ↦ eq-eqb left 0 (omega arith) ∙ sym (eq-eqb (total always g n) room (omega (arith, ap (total always g) e)))
+    | no h ↦ ne-eqb left 0 (λ q. omega arith) ∙ sym (ne-eqb (total always g n) room (λ q. omega (arith, ap (total always g) e)))
   ]
 
 abbrev Inv-loop : tie.InvT-loop
-Inv-loop area ws n room width left₀ i₀ left i = (i ≤ n) × (left + total any (counts area ws) i ≡ room)
+Inv-loop area ws n room width left₀ i₀ left i = (i ≤ n) × (left + total always (counts area ws) i ≡ room)
 
 abbrev μ-loop : tie.MeasureT-loop
 μ-loop area ws n room width left₀ i₀ left i = n - i

@@ -6,7 +6,7 @@ use native.Mathlib.Omega.{arith}
 use borrow.Author.Tests.{not-true, not-false}
 use borrow.Author.Needs.{needs}
 use Rattle.definitions.specs.Refusals.{refused, scan, scanAreas}
-use Rattle.faults.specs.Faults.{areaOk, areasAt}
+use Rattle.faults.specs.Checking.{areaOk, areasAt}
 use Rattle.faults.proofs.Lengths.{areas-le}
 use Rattle.faults.proofs.Scans.{scan-whole, scan-on, scan-stop, scan-end}
 use Rattle.faults.proofs.areas.first.Statement.{statement}

@@ -6,7 +6,7 @@ use Prim.Native.Nat.{ℕ}
 use borrow.Author.Tests.{ne-eqb}
 use Rattle.slots.proofs.Decision.{at-keys}
 use Rattle.rules.specs.declared.Limits.{Limits}
-use Rattle.faults.specs.Faults.{limitsAt}
+use Rattle.faults.specs.Checking.{limitsAt}
 use Rattle.faults.proofs.at_once.limits.Statement.{statement}
 use Rattle.faults.proofs.at_once.limits.Tie as tie
 

@@ -7,7 +7,7 @@ use native.Mathlib.Nat.{not-suc-le-zero}
 use native.Mathlib.Omega.{arith}
 use borrow.Author.Tests.{not-false}
 use Rattle.definitions.specs.Areas.{Areas, areasOf, numbered}
-use Rattle.faults.specs.Faults.{Passed, Used}
+use Rattle.faults.specs.Checking.{Passed, Used}
 use Rattle.faults.proofs.AtOnce.{not-both, no-fault}
 use Rattle.faults.proofs.at_once.passes.Statement.{statement}
 use Rattle.faults.proofs.at_once.passes.Tie as tie

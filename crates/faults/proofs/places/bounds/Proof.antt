@@ -1,7 +1,7 @@
 -- `places::bounds` meets its contract.
 -- Assumes nothing.
 use borrow.Author.Tests.{eq-eqb, ne-eqb}
-use Rattle.faults.specs.Faults.{boundsAt}
+use Rattle.faults.specs.Checking.{boundsAt}
 use Rattle.faults.proofs.places.bounds.Statement.{statement}
 use Rattle.faults.proofs.places.bounds.Tie as tie
 

@@ -7,7 +7,7 @@ use native.Mathlib.Omega.{arith}
 use borrow.Author.Tests.{eqb-true, eqb-false}
 use borrow.Author.Needs.{needs}
 use Rattle.definitions.specs.Areas.{Areas, areasOf, numbered}
-use Rattle.faults.specs.Faults.{most}
+use Rattle.faults.specs.Checking.{most}
 use Rattle.faults.proofs.Carries.{no-counts, no-leading, nothing-else, carried-le, counts, leads}
 use Rattle.faults.proofs.Arenas.{span-at}
 use Rattle.rules.proofs.Places.{place-fits}

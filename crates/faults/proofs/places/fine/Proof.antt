@@ -6,7 +6,7 @@ use native.Mathlib.Omega.{arith}
 use borrow.Author.Needs.{needs}
 use Rattle.definitions.specs.Areas.{Areas, areasOf, mentionCount}
 use Rattle.rules.specs.Rules.{sizesOf}
-use Rattle.faults.specs.Faults.{okAt, placesIn}
+use Rattle.faults.specs.Checking.{okAt, placesIn}
 use Rattle.faults.proofs.Tests.{looks-there, pool-four, mention-four-six, members-used, components-used}
 use Rattle.faults.proofs.places.fine.Statement.{statement}
 use Rattle.faults.proofs.places.fine.Tie as tie

@@ -9,7 +9,7 @@ use Rattle.definitions.specs.Areas.{Areas, areasOf}
 use Rattle.definitions.specs.Refusals.{Verdict, accepted, refused}
 use Rattle.faults.specs.declared.places.Place.{Place}
 use Rattle.faults.specs.declared.places.Place.the-variants.{At, Nowhere}
-use Rattle.faults.specs.Faults.{carriedTo, inTurn, scanArea, placesAt}
+use Rattle.faults.specs.Checking.{carriedTo, inTurn, scanArea, placesAt}
 use Rattle.faults.proofs.Arenas.{mentions-le}
 use Rattle.faults.proofs.Carries.{handed-none, handed-on}
 use Rattle.faults.proofs.Walk.{places-are, AreasLeft, PlacesLeft, done, enter, next, fault, leave}

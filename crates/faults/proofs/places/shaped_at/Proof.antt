@@ -6,7 +6,7 @@ use lib.ListN.{getD}
 use borrow.Author.Needs.{needs}
 use Rattle.definitions.specs.Areas.{Areas, Arena, areasOf, numbered, words}
 use Rattle.rules.proofs.Places.{place-fits}
-use Rattle.faults.specs.Faults.{most}
+use Rattle.faults.specs.Checking.{most}
 use Rattle.faults.proofs.Arenas.{words-all}
 use Rattle.faults.proofs.Records.{shaped-record}
 use Rattle.faults.proofs.places.shaped_at.Statement.{statement}
