@@ -22,22 +22,12 @@ use Rattle.definitions.specs.Refusals.{every, held, heldAt, inside as te
 use Rattle.definitions.specs.Numbering.{isKept, moved, newHandle, rank}
 use Rattle.definitions.specs.Records.{adjusted, keptAreas, mentionAfter, mentionsUpTo, runsUpTo, startAfter}
 use Rattle.definitions.proofs.ListLaws.{total-share, length-gather, gather-word, total-cong, total-scale, total-any}
-use Rattle.definitions.proofs.Least.{_∈_, and-left, and-right, Within, Closed, here, there, cons-cases, none-in, append-left, append-right, reached, reached-within}
+use Rattle.definitions.proofs.Least.{_∈_, and-left, and-right, both, Within, within-each, map-within, Closed, here, there, cons-cases, none-in, append-left, append-right, reached, reached-within}
 use Rattle.definitions.proofs.Accepted.{Sound, Accepted}
 use Rattle.definitions.proofs.Kept.{OrderedOn, SlotHolds, EachSlot, all-within, sized-past, Inside, inside-lt}
 use Rattle.definitions.proofs.Places.{new-kept, new-mono, rank-le, rank-mono, rank-below, no-gap}
 use Rattle.definitions.proofs.Tandem.{past-mono}
 use Rattle.definitions.proofs.Reading.{after, length-after, size-after, word-after, layout-after, length-layout, span-after, pool-types, pool-expressions, start-total, kind-expression, kind-type, within-slots, references-after, moved-inside, new-few, map-append}
-
-pub both : (p q : Bool) → T p → T q → T (p && q)
-both true q t u = u
-both false q t u = t
-
--- what the moved elements have
-map-within : (P : Elem → Type 0) (f : Elem → Elem) (l : List Elem) → Within l (λ x. P (f x)) → Within (map f l) P
-map-within P f [] w y h = absurd (none-in y h)
-map-within P f (x ∷ l) w y h =
-    ⊎-elim (λ e. subst P (sym e) (w x (here x l))) (λ i. map-within P f l (λ z j. w z (there z x l j)) y i) (cons-cases y (f x) (map f l) h)
 
 held-slot : (s : Areas) (l : Slot) (w : ℕ) → SlotHolds (Inside s) l w → T (held s l w)
 unfolding held
@@ -173,7 +163,8 @@ module _ (s : Areas) (m : List Elem) (c : Sound s) (inside : Within m (Inside s)
   refs-inside : (a : Arena) (h : ℕ) → at a h ∈ m → Within (references (after s m) (at a (rank (isKept m a) h))) (Inside (after s m))
   refs-inside a h i =
       rw (references-after s m c inside closed a h i)
-      (map-within (Inside (after s m)) (moved m) (references s (at a h)) (λ y j. moved-inside s m c inside closed y (closed (at a h) y i j)))
+      (map-within (Inside (after s m)) (moved m) (references s (at a h))
+      (within-each _ (references s (at a h)) (λ y j. moved-inside s m c inside closed y (closed (at a h) y i j))))
 
   holds-after : (a : Arena) (h : ℕ) → at a h ∈ m → h < size s a → T (heldAt (after s m) a (rank (isKept m a) h))
   holds-after a h i l = refs-held (after s m) a (rank (isKept m a) h) (refs-inside a h i)
@@ -295,10 +286,11 @@ module _ (s : Areas) (m : List Elem) (c : Sound s) (inside : Within m (Inside s)
       rw (reached-after a h i)
       (within-all (later (after s m) (at a (rank (isKept m a) h))) (map (moved m) (reached s (at a h)))
       (map-within (λ y. T (later (after s m) (at a (rank (isKept m a) h)) y)) (moved m) (reached s (at a h))
+      (within-each _ (reached s (at a h))
       (λ y j.
       subst (λ x. T (later (after s m) x (moved m y))) (moved-kept a h i)
       (later-after (at a h) y i (reached-within s (λ x. x ∈ m) closed (at a h) y i j)
-      (all-within s (later s (at a h)) (reached s (at a h)) t y j)))))
+      (all-within s (later s (at a h)) (reached s (at a h)) t y j))))))
 
   -- ---- checks 1 and 2, and the mentions
 

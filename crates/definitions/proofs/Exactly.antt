@@ -10,7 +10,7 @@ use native.Mathlib.Decide.{decLt}
 use native.Mathlib.Omega.{arith}
 use lib.Dec.{T, eqb, ltb, leb, eqb→eq, lit<, lit≤}
 use lib.ListN.{length, getD}
-use Rattle.definitions.specs.Areas.{Areas, Arena, N, at, constants, expressions, globals, lengthOf, limits, mentionCount}
+use Rattle.definitions.specs.Areas.{Areas, Arena, N, at, constants, eachArena, expressions, globals, lengthOf, limits, mentionCount}
 use Rattle.definitions.specs.Areas.{mentionWord, areaNumber, numbered, overrides, pool, recordsOf, size, types, widths}
 use Rattle.definitions.specs.Roots.{mention}
 use Rattle.definitions.specs.Order.{wellOrdered}
@@ -21,7 +21,7 @@ use Rattle.definitions.specs.Faults.{mentionArea, outOfScope, missing, m
 use Rattle.definitions.proofs.Accepted.{areas-all, scan-all, size-few}
 use Rattle.definitions.proofs.Kept.{Plain}
 use Rattle.definitions.proofs.Judged.{Between, By, Early, Rising, areas-between, areas-by, arenas-at, arenas-rise, arenas-say, cond-says}
-use Rattle.definitions.proofs.Judged.{first-between, first-by, first-says, leb-fails, ltb-fails, not-eqb, not-leb, not-ltb, overArenas}
+use Rattle.definitions.proofs.Judged.{first-between, first-by, first-says, leb-fails, ltb-fails, not-eqb, not-leb, not-ltb}
 use Rattle.definitions.proofs.Judged.{passes-or-by, records-between, records-by, scan-says}
 use Rattle.definitions.proofs.Failing.{absent-fails, fails4, fails5, fails6, fails6-run, fails7, fault4, fault5, fault6, fault7}
 use Rattle.definitions.proofs.Failing.{misplaced-plain, outside-absent, runs-end}
@@ -50,13 +50,13 @@ module _ (s : Areas) (maps : List ℕ) where
   rest4 = poolUsed 5 s types ∷ poolUsed 6 s expressions ∷ scanMentions 4 known s ∷ []
 
   abbrev list4 : List Verdict
-  list4 = overArenas (scanRecords 4 shapedAt s) rest4
+  list4 = eachArena (scanRecords 4 shapedAt s) rest4
 
   abbrev rest6 : List Verdict
   rest6 = scanMentions 6 mentioned s ∷ []
 
   abbrev list6 : List Verdict
-  list6 = overArenas (scanRecords 6 heldAt s) rest6
+  list6 = eachArena (scanRecords 6 heldAt s) rest6
 
   abbrev list7 : List Verdict
   list7 = scanRecords 7 wellOrdered s types ∷ scanRecords 7 wellOrdered s expressions ∷ []

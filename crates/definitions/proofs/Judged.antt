@@ -10,7 +10,7 @@ use native.Mathlib.Omega.{arith}
 use lib.Dec.{T, eqb, leb, ltb, not-T, ltb→lt, leb→le, nleb→lt, nltb→le, eqb-refl}
 use lib.ListN.{length, getD}
 use Rattle.definitions.specs.Lists.{all}
-use Rattle.definitions.specs.Areas.{Arena, constants, expressions, globals, areaNumber, overrides, types}
+use Rattle.definitions.specs.Areas.{Arena, constants, eachArena, expressions, globals, areaNumber, overrides, types}
 use Rattle.definitions.specs.Slots.{Slot, free}
 use Rattle.definitions.specs.Refusals.{Verdict, accepted, every, firstOf, passes, refused, scan}
 use Rattle.definitions.proofs.Least.{and-left, and-right}
@@ -224,12 +224,9 @@ module _ (nr : ℕ) (ok : ℕ → Bool) (n : ℕ) where
       (λ k b. ⊎-elim (λ e. inr (ap (λ j. nr * 8 + j) e, zero-le)) (λ q. inl (omega arith)) (eq-or-lt-of-le b))
 
 -- a verdict for each arena, and more
-abbrev pub overArenas : (Arena → Verdict) → List Verdict → List Verdict
-overArenas f l = f types ∷ f constants ∷ f overrides ∷ f globals ∷ f expressions ∷ l
-
 module _ (f : Arena → Verdict) (l : List Verdict) where
   -- each stands at its arena's number
-  pub arenas-at : (a : Arena) → getD (overArenas f l) (areaNumber a) accepted ≡ f a
+  pub arenas-at : (a : Arena) → getD (eachArena f l) (areaNumber a) accepted ≡ f a
   unfolding areaNumber
   arenas-at types = refl
   arenas-at constants = refl
@@ -239,13 +236,13 @@ module _ (f : Arena → Verdict) (l : List Verdict) where
 
   -- they rise where each stands under its area, and more after them
   pub arenas-rise : (k hi : ℕ) → ((a : Arena) → Between (k + areaNumber a) (k + suc (areaNumber a)) (f a))
-      → Rising (k + 5) l hi → Rising (k + 0) (overArenas f l) hi
+      → Rising (k + 5) l hi → Rising (k + 0) (eachArena f l) hi
   unfolding areaNumber
   arenas-rise k hi b r = (k + 1, b types, (k + 2, b constants, (k + 3, b overrides, (k + 4, b globals, (k + 5, b expressions, r)))))
 
   -- they all say what each says
   pub arenas-say : (P : Verdict → Type 0) → ((a : Arena) → P (f a)) → (((a : Arena) → T (passes (f a))) → EachSays P l)
-      → EachSays P (overArenas f l)
+      → EachSays P (eachArena f l)
   arenas-say P p r = (p types, λ t. (p constants, λ c. (p overrides, λ o. (p globals, λ g. (p expressions, λ e. r (each t c o g e))))))
     where
       each : T (passes (f types)) → T (passes (f constants)) → T (passes (f overrides)) → T (passes (f globals)) → T (passes (f expressions))

@@ -18,7 +18,7 @@ use Rattle.definitions.specs.Roots.{commonRoots, isNamed, mention, moreR
 use Rattle.definitions.specs.Order.{behind, later, pastDep, onePast, order, sizedBy, wellOrdered, withBehind}
 use Rattle.definitions.specs.Sweep.{kept, sweep, visit}
 use Rattle.definitions.specs.Refusals.{every, held, heldAt, inside}
-use Rattle.definitions.proofs.Least.{_∈_, and-left, and-right, cons-cases, none-in, append-cases, Within, Sorted, touched-self, touched-behind, touched-cases, reached, visit-cases, visit-old, visit-new, sweep-old, Closed, touched-within, sweep-within, sweep-closed}
+use Rattle.definitions.proofs.Least.{_∈_, and-left, and-right, cons-cases, none-in, append-cases, Within, Each, map-within, Sorted, touched-self, touched-behind, touched-cases, reached, visit-cases, visit-old, visit-new, sweep-old, Closed, touched-within, sweep-within, sweep-closed}
 use Rattle.definitions.proofs.Accepted.{Sound, Accepted}
 use Rattle.definitions.proofs.Tandem.{Among, visits-among, Before, asym, visits-sorted, visits-types, visits-expressions}
 
@@ -176,30 +176,21 @@ module _ (s : Areas) where
 
   -- ---- the roots lie inside
 
-  abbrev pub EachN : (ℕ → Type 0) → List ℕ → Type 0
-  EachN P [] = Unit {0}
-  EachN P (i ∷ l) = P i × EachN P l
-
-  pub count-below : (i n k : ℕ) → i + n ≤ k → EachN (λ j. j < k) (countUp i n)
+  pub count-below : (i n k : ℕ) → i + n ≤ k → Each (λ j. j < k) (countUp i n)
   unfolding countUp
   count-below i zero k h = tt
   count-below i (suc n) k h = (omega arith, count-below (suc i) n k (omega arith))
 
-  select-each : (P : ℕ → Type 0) (p : ℕ → Bool) (l : List ℕ) → EachN P l → EachN P (select p l)
+  select-each : (P : ℕ → Type 0) (p : ℕ → Bool) (l : List ℕ) → Each P l → Each P (select p l)
   unfolding select
   select-each P p [] e = tt
   select-each P p (i ∷ l) e = go (p i) (select-each P p l (e .1))
     where
-      go : (b : Bool) → EachN P (select p l) → EachN P (cond b (i ∷ select p l) (select p l))
+      go : (b : Bool) → Each P (select p l) → Each P (cond b (i ∷ select p l) (select p l))
       go true r = (e .0, r)
       go false r = r
 
-  pub map-within : (P : Elem → Type 0) (f : ℕ → Elem) (l : List ℕ) → EachN (λ i. P (f i)) l → Within (map f l) P
-  map-within P f [] e y h = absurd (none-in y h)
-  map-within P f (i ∷ l) e y h =
-      ⊎-elim (λ q. subst P (sym q) (e .0)) (λ j. map-within P f l (e .1) y j) (cons-cases y (f i) (map f l) h)
-
-  pub each-map : (P Q : ℕ → Type 0) (l : List ℕ) → ((i : ℕ) → P i → Q i) → EachN P l → EachN Q l
+  pub each-map : (P Q : ℕ → Type 0) (l : List ℕ) → ((i : ℕ) → P i → Q i) → Each P l → Each Q l
   each-map P Q [] f e = tt
   each-map P Q (i ∷ l) f e = (f i (e .0), each-map P Q l f (e .1))
 

@@ -3,7 +3,7 @@
 use mathlib.Core.Path.{_≡_, refl, sym, ap, ap₂, subst, _∙_}
 use mathlib.Core.Bool.{Bool, true, false, _&&_, _||_, cond}
 use mathlib.Core.Logic.{_⊎_, inl, inr, ⊎-elim}
-use mathlib.Core.List.{List, [], _∷_, _++_}
+use mathlib.Core.List.{List, [], _∷_, _++_, map}
 use lib.Dec.{T, eqb, eqb→eq, eqb-refl}
 use Rattle.definitions.specs.Areas.{Areas, Arena, Elem, at, constants, expressions, globals, areaNumber, numbered, overrides, same, types}
 use Rattle.definitions.specs.References.{references}
@@ -36,6 +36,10 @@ pub and-right : (a b : Bool) → T (a && b) → T b
 and-right true b t = t
 and-right false b t = absurd t
 
+pub both : (p q : Bool) → T p → T q → T (p && q)
+both true q t u = u
+both false q t u = t
+
 -- ---- elements
 
 -- an arena is the one of its area number
@@ -58,10 +62,6 @@ same-eq (at a h) (at b k) t =
 pub same-refl : (x : Elem) → T (same x x)
 unfolding same
 same-refl (at a h) = both (eqb (areaNumber a) (areaNumber a)) (eqb h h) (eqb-refl (areaNumber a)) (eqb-refl h)
-  where
-    both : (p q : Bool) → T p → T q → T (p && q)
-    both true q t u = u
-    both false q t u = t
 
 -- ---- membership
 
@@ -103,6 +103,21 @@ append-cases x (y ∷ l) m h =
 -- the list lies inside a set
 abbrev pub Within : List Elem → (Elem → Type 0) → Type 0
 Within l S = (x : Elem) → x ∈ l → S x
+
+-- each of a list has P
+abbrev pub Each : {A : Type 0} → (A → Type 0) → List A → Type 0
+Each P [] = Unit {0}
+Each P (x ∷ l) = P x × Each P l
+
+pub within-each : (P : Elem → Type 0) (l : List Elem) → Within l P → Each P l
+within-each P [] w = tt
+within-each P (x ∷ l) w = (w x (here x l), within-each P l (λ y i. w y (there y x l i)))
+
+-- what f of each has, all of the list under f has
+pub map-within : {A : Type 0} (P : Elem → Type 0) (f : A → Elem) (l : List A) → Each (λ x. P (f x)) l → Within (map f l) P
+map-within P f [] e y h = absurd (none-in y h)
+map-within P f (x ∷ l) e y h =
+    ⊎-elim (λ q. subst P (sym q) (e .0)) (λ j. map-within P f l (e .1) y j) (cons-cases y (f x) (map f l) h)
 
 -- each of the list stands, in R, before all that follow it
 abbrev pub Sorted : (Elem → Elem → Type 0) → List Elem → Type 0
@@ -264,10 +279,6 @@ module _ (s : Areas) where
   unfolding sweep
   sweep-append [] r m = refl
   sweep-append (x ∷ l) r m = sweep-append l r (visit s m x)
-
-  -- what is marked after some visits is marked in the end
-  pub sweep-more : (l r m : List Elem) (y : Elem) → y ∈ sweep s l m → y ∈ sweep s (l ++ r) m
-  sweep-more l r m y h = rw (sweep-append l r m) (sweep-old r (sweep s l m) y h)
 
   -- ---- reaching
 

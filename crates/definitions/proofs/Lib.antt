@@ -1,4 +1,5 @@
 -- The laws of the definitions. What they promise in words: docs/REVIEW.md.
+pub mod Computed
 pub mod Worked
 pub mod Demand3
 pub mod Exactly

@@ -16,9 +16,9 @@ use Rattle.definitions.specs.Roots.{commonRoots, isAbstract, isNamed, me
 use Rattle.definitions.specs.Sweep.{kept}
 use Rattle.definitions.specs.Numbering.{isKept, moved, rank}
 use Rattle.definitions.specs.Records.{adjusted}
-use Rattle.definitions.proofs.Least.{_∈_, Within, Closed, here, there, cons-cases, none-in, append-left, append-right, append-cases}
+use Rattle.definitions.proofs.Least.{_∈_, Within, map-within, Closed, here, there, cons-cases, none-in, append-left, append-right, append-cases}
 use Rattle.definitions.proofs.Accepted.{Sound, Accepted}
-use Rattle.definitions.proofs.Kept.{Inside, inside-lt, map-within, each-map, count-below, OrderedOn, all-ordered, kept-roots, kept-inside, kept-closed, kept-least}
+use Rattle.definitions.proofs.Kept.{Inside, inside-lt, each-map, count-below, OrderedOn, all-ordered, kept-roots, kept-inside, kept-closed, kept-least}
 use Rattle.definitions.proofs.Places.{new-kept, rank-below, no-gap}
 use Rattle.definitions.proofs.Reading.{after, size-after, word-after, word-stays, references-after}
 use Rattle.definitions.proofs.AcceptedAfter.{moved-kept, kept-slots, mentionCount-after, mention-after, accepted-after}
@@ -171,7 +171,7 @@ module _ (s : Areas) (c : Sound s) (keep : Bool) (o : OrderedOn s (kept s keep))
 
   mention-root : (x : Elem) → x ∈ map (mention s) (countUp 0 (mentionCount s)) → moved m x ∈ map (mention (after s m)) (countUp 0 (mentionCount (after s m)))
   mention-root =
-      map-within s (λ x. moved m x ∈ map (mention (after s m)) (countUp 0 (mentionCount (after s m)))) (mention s) (countUp 0 (mentionCount s))
+      map-within (λ x. moved m x ∈ map (mention (after s m)) (countUp 0 (mentionCount (after s m)))) (mention s) (countUp 0 (mentionCount s))
       (each-map s (λ h. h < mentionCount s) (λ h. moved m (mention s h) ∈ map (mention (after s m)) (countUp 0 (mentionCount (after s m)))) (countUp 0 (mentionCount s))
       (λ h l.
       subst (λ y. y ∈ map (mention (after s m)) (countUp 0 (mentionCount (after s m)))) (mention-after s m c ins clo h l)

@@ -9,43 +9,35 @@ use Rattle.definitions.specs.Lists.{all}
 use Rattle.definitions.specs.Areas.{Areas, N, Words, allWords}
 use Rattle.definitions.specs.Outcome.{Maps, Outcome, outcome}
 use Rattle.definitions.specs.MapEntries.{Adjusted, Ranged, lookup, adjust, range}
-use Rattle.definitions.specs.Lists
-use Rattle.definitions.specs.Areas as A
-use Rattle.definitions.specs.Slots
-use Rattle.definitions.specs.References
-use Rattle.definitions.specs.Roots
-use Rattle.definitions.specs.Order
-use Rattle.definitions.specs.Sweep
-use Rattle.definitions.specs.Refusals
-use Rattle.definitions.specs.Numbering
-use Rattle.definitions.specs.Records
-use Rattle.definitions.specs.Outcome as O
-use Rattle.definitions.specs.MapEntries
-
--- all that a pass and a range compute with: `unfolding computed` opens it
-unfoldable computed : ℕ
-unfolding Lists.total Lists.gather Lists.countUp Lists.select Lists.all A.areaNumber A.numbered A.words A.width A.allWords A.widths A.limits A.lengthOf A.recordsOf A.size A.word A.pool A.mentionCount A.mentionWord A.same Slots.fill Slots.typeSlots Slots.levelSlots Slots.querySlots Slots.formOf Slots.exprSlots Slots.exprBody Slots.typeBody Slots.body Slots.slots Slots.layout References.hasRun References.span References.run References.namedBy References.namedFrom References.references Roots.those Roots.mention Roots.isNamed Roots.isAbstract Roots.rootConstant Roots.namedOverride Roots.commonRoots Roots.moreRoots Roots.roots Order.behind Order.withBehind Order.onePast Order.sizedBy Order.pastDep Order.falling Order.visits Order.order Order.later Order.wellOrdered Sweep.has Sweep.visit Sweep.sweep Sweep.kept Refusals.firstOf Refusals.scan Refusals.scanAreas Refusals.scanRecords Refusals.scanMentions Refusals.check1 Refusals.check2 Refusals.check3 Refusals.every Refusals.runsBefore Refusals.shaped Refusals.shapedAt Refusals.poolUsed Refusals.check4 Refusals.ofModule Refusals.check5 Refusals.inside Refusals.held Refusals.heldAt Refusals.check6 Refusals.check7 Refusals.check Numbering.rank Numbering.newHandle Numbering.mapUpTo Numbering.mapAfter Records.startAfter Records.adjusted Records.adjustedFrom Records.recordAfter Records.recordsUpTo Records.runsUpTo Records.mentionAfter Records.mentionsUpTo Records.keptAreas Records.padded Records.areasAfter O.lengths O.keptCounts O.mapsAfter O.outcomeOf O.outcome MapEntries.lookup MapEntries.adjust MapEntries.live MapEntries.last MapEntries.spanned MapEntries.range
-computed = 0
+use Rattle.definitions.proofs.Computed.{computed}
 
 -- ---- the rows
 
 -- a row: a pass over a module, or what the map entries answer on the map of case 7
 pub data Row : Type 0 where
-  pass : ℕ → Areas → Bool → List Words → Row  -- case (0 for one of our own), module, flag (true for Yes), and what `seen` begins with
+  -- case (0 for one of our own), module, maps, the flags that it is tried under, and what `seen` begins with
+  pass : ℕ → Areas → Maps → List Bool → List Words → Row
   ranged : ℕ → ℕ → ℕ → ℕ → ℕ → Row  -- start, end; the number, start and end that it answers
   looked : ℕ → ℕ → Row  -- handle; what lookup gives
-  adjusted′ : ℕ → ℕ → ℕ → Row  -- handle; the number and the handle that adjust answers
+  adjusts : ℕ → ℕ → ℕ → Row  -- handle; the number and the handle that adjust answers
 
--- maps with room for more than the records, so that "words past that stay" shows
+-- `KeepUnused::Yes`, `No`, and each of the two
+withYes : List Bool
+withYes = true ∷ []
+
+withNo : List Bool
+withNo = false ∷ []
+
+either : List Bool
+either = true ∷ false ∷ []
+
+-- five maps of the same words
+maps : Words → Maps
+maps ws = record { types = ws; constants = ws; overrides = ws; globals = ws; expressions = ws }
+
+-- with room for more than the records, so that "words past that stay" shows
 room : Maps
-room =
-    record {
-      types = replicate 4 7;
-      constants = replicate 4 7;
-      overrides = replicate 4 7;
-      globals = replicate 4 7;
-      expressions = replicate 4 7;
-    }
+room = maps (replicate 4 7)
 
 mapsIn : Maps → List Words
 mapsIn p = p .types ∷ p .constants ∷ p .overrides ∷ p .globals ∷ p .expressions ∷ []
@@ -83,12 +75,12 @@ pooled t p q =
     }
 
 -- a pass that is refused with number, area and record: counts 0, and nothing has changed
-refuses : ℕ → Areas → Bool → ℕ → ℕ → ℕ → Row
-refuses case s keep nr a h = pass case s keep ((case ∷ nr ∷ a ∷ h ∷ replicate 7 0) ∷ mapsIn room ++ allWords s)
+refuses : ℕ → Areas → List Bool → ℕ → ℕ → ℕ → Row
+refuses case s flags nr a h = pass case s room flags ((case ∷ nr ∷ a ∷ h ∷ replicate 7 0) ∷ mapsIn room ++ allWords s)
 
 -- a pass that is accepted, with its kept types, constants, overrides, globals and expressions
-keeps : ℕ → Areas → Bool → ℕ → ℕ → ℕ → ℕ → ℕ → Row
-keeps case s keep t c o g e = pass case s keep ((case ∷ 0 ∷ 0 ∷ 0 ∷ t ∷ c ∷ o ∷ g ∷ e ∷ 0 ∷ 0 ∷ []) ∷ [])
+keeps : ℕ → Areas → List Bool → ℕ → ℕ → ℕ → ℕ → ℕ → Row
+keeps case s flags t c o g e = pass case s room flags ((case ∷ 0 ∷ 0 ∷ 0 ∷ t ∷ c ∷ o ∷ g ∷ e ∷ 0 ∷ 0 ∷ []) ∷ [])
 
 -- words, then N to that many
 upTo : ℕ → Words → Words
@@ -129,20 +121,20 @@ case9 e = module′ [] [] [] (literal 0 ++ e) (4 ∷ 1 ∷ [])
 
 pub table : List Row
 table =
-    pass 1 case1 true
+    pass 1 case1 room withYes
     ((1 ∷ 0 ∷ 0 ∷ 0 ∷ 2 ∷ 0 ∷ 1 ∷ 0 ∷ 1 ∷ 0 ∷ 0 ∷ [])
     ∷ (0 ∷ 1 ∷ 7 ∷ 7 ∷ []) ∷ replicate 4 7 ∷ (0 ∷ 7 ∷ 7 ∷ 7 ∷ []) ∷ replicate 4 7 ∷ (N ∷ 0 ∷ 7 ∷ 7 ∷ [])
     ∷ (0 ∷ 0 ∷ N ∷ N ∷ 10 ∷ 2 ∷ 1 ∷ 0 ∷ 0 ∷ 11 ∷ []) ∷ [] ∷ (0 ∷ 0 ∷ 0 ∷ 0 ∷ []) ∷ [] ∷ (literal 21 ++ replicate 11 N) ∷ [] ∷ [] ∷ [] ∷ [])
-    ∷ pass 2 case1 false
+    ∷ pass 2 case1 room withNo
     ((2 ∷ 0 ∷ 0 ∷ 0 ∷ replicate 7 0)
     ∷ (N ∷ N ∷ 7 ∷ 7 ∷ []) ∷ replicate 4 7 ∷ (N ∷ 7 ∷ 7 ∷ 7 ∷ []) ∷ replicate 4 7 ∷ (N ∷ N ∷ 7 ∷ 7 ∷ [])
     ∷ replicate 10 N ∷ [] ∷ replicate 4 N ∷ [] ∷ replicate 22 N ∷ [] ∷ [] ∷ [] ∷ [])
-    ∷ refuses 4 (case4 (expression 5 (0 ∷ []) 0)) true 7 4 0
-    ∷ keeps 4 (case4 (literal 0 ++ expression 5 (0 ∷ []) 0)) true 0 0 0 0 0
-    ∷ refuses 5 (case5 (expression 7 (2 ∷ []) 0 ++ literal 0)) true 7 4 0
-    ∷ keeps 5 (case5 (literal 0 ++ literal 0 ++ expression 7 (2 ∷ []) 0)) true 0 0 0 0 0
-    ∷ keeps 6 (case6 2) true 0 0 0 0 0
-    ∷ keeps 6 (case6 0) true 1 1 0 0 1
+    ∷ refuses 4 (case4 (expression 5 (0 ∷ []) 0)) either 7 4 0
+    ∷ keeps 4 (case4 (literal 0 ++ expression 5 (0 ∷ []) 0)) either 0 0 0 0 0
+    ∷ refuses 5 (case5 (expression 7 (2 ∷ []) 0 ++ literal 0)) either 7 4 0
+    ∷ keeps 5 (case5 (literal 0 ++ literal 0 ++ expression 7 (2 ∷ []) 0)) either 0 0 0 0 0
+    ∷ keeps 6 (case6 2) withYes 0 0 0 0 0
+    ∷ keeps 6 (case6 0) withYes 1 1 0 0 1
     ∷ ranged 0 1 0 0 0
     ∷ ranged 0 2 0 0 1
     ∷ ranged 1 4 0 0 2
@@ -154,24 +146,25 @@ table =
     ∷ looked 0 N
     ∷ looked 3 1
     ∷ looked 5 N
-    ∷ adjusted′ 0 9 N
-    ∷ adjusted′ 3 0 1
-    ∷ adjusted′ 5 8 N
-    ∷ keeps 9 (case9 (expression 33 (0 ∷ 0 ∷ 0 ∷ []) 0)) false 0 0 0 0 2
-    ∷ refuses 9 (case9 (expression 34 (0 ∷ 0 ∷ 0 ∷ []) 0)) false 4 4 1
-    ∷ refuses 9 (case9 (expression 13 (0 ∷ []) 0)) false 5 4 1
+    ∷ adjusts 0 9 N
+    ∷ adjusts 3 0 1
+    ∷ adjusts 5 8 N
+    ∷ keeps 9 (case9 (expression 33 (0 ∷ 0 ∷ 0 ∷ []) 0)) either 0 0 0 0 2
+    ∷ refuses 9 (case9 (expression 34 (0 ∷ 0 ∷ 0 ∷ []) 0)) either 4 4 1
+    ∷ refuses 9 (case9 (expression 13 (0 ∷ []) 0)) either 5 4 1
     -- "Check 4 passes over them and doesn't read their slots."
-    ∷ refuses 9 (case9 (expression 13 (1 ∷ 2 ∷ 3 ∷ 4 ∷ 5 ∷ 6 ∷ 7 ∷ 8 ∷ 9 ∷ []) 0)) false 5 4 1
-    ∷ refuses 9 (case9 (expression 27 (1 ∷ 2 ∷ 3 ∷ 4 ∷ 5 ∷ 6 ∷ 7 ∷ 8 ∷ 9 ∷ []) 0)) false 5 4 1
+    ∷ refuses 9 (case9 (expression 13 (1 ∷ 2 ∷ 3 ∷ 4 ∷ 5 ∷ 6 ∷ 7 ∷ 8 ∷ 9 ∷ []) 0)) either 5 4 1
+    ∷ refuses 9 (case9 (expression 27 (1 ∷ 2 ∷ 3 ∷ 4 ∷ 5 ∷ 6 ∷ 7 ∷ 8 ∷ 9 ∷ []) 0)) either 5 4 1
     -- "youngest first": 2 keeps 1, and 1 keeps 0
-    ∷ keeps 0 (module′ [] [] [] (literal 0 ++ expression 19 (0 ∷ []) 0 ++ expression 19 (1 ∷ []) 0) (4 ∷ 2 ∷ [])) false 0 0 0 0 3
+    ∷ keeps 0 (module′ [] [] [] (literal 0 ++ expression 19 (0 ∷ []) 0 ++ expression 19 (1 ∷ []) 0) (4 ∷ 2 ∷ [])) withNo 0 0 0 0 3
     -- "Adjusting a run under its old start after the pool has moved": the first of two structs goes
-    ∷ pass 0 (pooled (leaf ++ (3 ∷ 0 ∷ 0 ∷ 2 ∷ 0 ∷ []) ++ (3 ∷ 0 ∷ 2 ∷ 1 ∷ 0 ∷ [])) (0 ∷ 0 ∷ 0 ∷ []) (0 ∷ 2 ∷ [])) false
+    ∷ pass 0 (pooled (leaf ++ (3 ∷ 0 ∷ 0 ∷ 2 ∷ 0 ∷ []) ++ (3 ∷ 0 ∷ 2 ∷ 1 ∷ 0 ∷ [])) (0 ∷ 0 ∷ 0 ∷ []) (0 ∷ 2 ∷ [])) room withNo
     ((0 ∷ 0 ∷ 0 ∷ 0 ∷ 2 ∷ 0 ∷ 0 ∷ 0 ∷ 0 ∷ 1 ∷ 0 ∷ [])
     ∷ (0 ∷ N ∷ 1 ∷ 7 ∷ []) ∷ replicate 4 7 ∷ replicate 4 7 ∷ replicate 4 7 ∷ replicate 4 7
     ∷ (leaf ++ (3 ∷ 0 ∷ 0 ∷ 1 ∷ 0 ∷ []) ++ replicate 5 N) ∷ [] ∷ [] ∷ [] ∷ [] ∷ (0 ∷ N ∷ N ∷ []) ∷ [] ∷ (0 ∷ 1 ∷ []) ∷ [])
-    ∷ refuses 10 (module′ (1 ∷ 0 ∷ 9 ∷ N ∷ 0 ∷ []) [] [] (expression 34 [] 0) []) false 4 4 0
-    ∷ keeps 11 (module′ [] [] [] [] []) true 0 0 0 0 0
+    ∷ refuses 10 (module′ (1 ∷ 0 ∷ 9 ∷ N ∷ 0 ∷ []) [] [] (expression 34 [] 0) []) either 4 4 0
+    -- nothing in any of the thirteen, before and after
+    ∷ pass 11 (module′ [] [] [] [] []) (maps []) either ((11 ∷ 0 ∷ 0 ∷ 0 ∷ replicate 7 0) ∷ replicate 13 [])
     ∷ []
 
 -- ---- the check of the table
@@ -198,12 +191,12 @@ rangedWords : Ranged → Words
 rangedWords r = r .number ∷ r .start ∷ r .end ∷ []
 
 pub holds : Row → Bool
-holds (pass case s keep l) = begins l (seen case (outcome s room keep))
+holds (pass case s p flags l) = all (λ keep. begins l (seen case (outcome s p keep))) flags
 holds (ranged a b nr c d) = sameWords (nr ∷ c ∷ d ∷ []) (rangedWords (range map7 a b))
 holds (looked h v) = eqb v (lookup map7 h)
-holds (adjusted′ h nr v) = sameWords (nr ∷ v ∷ []) (adjustedWords (adjust map7 h))
+holds (adjusts h nr v) = sameWords (nr ∷ v ∷ []) (adjustedWords (adjust map7 h))
 
 -- every row of the table holds
 pub worked : T (all holds table)
-unfolding computed holds table begins sameWords map7 adjustedWords rangedWords seen mapsIn refuses keeps case1 case4 case5 case6 case9 module′ pooled room leaf literal expression upTo
+unfolding computed holds table begins sameWords map7 adjustedWords rangedWords seen mapsIn refuses keeps withYes withNo either case1 case4 case5 case6 case9 module′ pooled maps room leaf literal expression upTo
 worked = tt

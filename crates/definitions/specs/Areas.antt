@@ -43,6 +43,10 @@ areasOf t c o g e m k q =
 pub data Arena : Type 0 where
   types constants overrides globals expressions : Arena
 
+-- what each arena gives, in order, before the rest
+abbrev pub eachArena : {A : Type 0} → (Arena → A) → List A → List A
+eachArena f l = f types ∷ f constants ∷ f overrides ∷ f globals ∷ f expressions ∷ l
+
 -- an arena's area number
 unfoldable pub areaNumber : Arena → ℕ
 areaNumber types = 0
@@ -83,7 +87,7 @@ allWords s =
 
 -- their record widths; a pool's record is one handle
 unfoldable pub widths : List ℕ
-widths = width types ∷ width constants ∷ width overrides ∷ width globals ∷ width expressions ∷ 1 ∷ 1 ∷ mentionWidth ∷ []
+widths = eachArena width (1 ∷ 1 ∷ mentionWidth ∷ [])
 
 -- "Most records"
 unfoldable pub limits : List ℕ

@@ -1,4 +1,4 @@
--- Document 01, "Refusal numbers", 1 to 7 a second time, as a plain relation: what is wrong at a place. Nothing is scanned, and nothing stands in an order.
+-- Document 01, "Refusal numbers", 1 to 7 a second time, as a plain relation: what is wrong at a place, with no scan.
 -- Assumes nothing.
 use mathlib.Core.Path.{_≡_}
 use mathlib.Core.Logic.{_≢_, _⊎_}
@@ -6,7 +6,9 @@ use mathlib.Core.List.{List}
 use Prim.Native.Nat.{ℕ, _+_, _%_, _≤_, _<_}
 use lib.ListN.{length, getD}
 use lib.Dec.{T}
-use Rattle.definitions.specs.Areas.{N, Arena, types, overrides, expressions, Areas, Elem, at, areaNumber, numbered, width, widths, limits, lengthOf, recordsOf, size, word, pool, mentionCount, mentionWord}
+use Rattle.definitions.specs.Areas.{N, Areas, Arena, types, overrides, expressions, numbered, Elem, at}
+use Rattle.definitions.specs.Areas.{areaNumber, width, widths, limits, lengthOf, recordsOf, size, word, pool}
+use Rattle.definitions.specs.Areas.{mentionCount, mentionWord}
 use Rattle.definitions.specs.Slots.{Slot, unused, free, below, must, may, start, layout}
 use Rattle.definitions.specs.References.{span, run, references}
 use Rattle.definitions.specs.Order.{behind}
@@ -49,8 +51,8 @@ pub data Misplaced (s : Areas) : Elem → Elem → Type 0 where
   typeNotOlder : {t u : ℕ} → t ≤ u → Misplaced s (at types t) (at types u)
   -- "an expression's expressions, and the init behind its constant or override, are older expressions"
   expressionNotOlder : {e i : ℕ} → e ≤ i → Misplaced s (at expressions e) (at expressions i)
-  -- "each type T that an expression names, or that stands behind its constant or override, has dep(T) below that expression": type v, which is
-  -- T or before it, is sized by an override whose init isn't below expression e
+  -- "each type T that an expression names, or that stands behind its constant or override, has dep(T) below that
+  -- expression": type v, which is T or before it, is sized by an override whose init isn't below expression e
   depNotBelow : {e t v i : ℕ} → v ≤ t → word s types v 0 ≡ 2 → word s overrides (word s types v 3) 2 ≡ i → i ≢ N → e ≤ i
       → Misplaced s (at expressions e) (at types t)
 
@@ -63,27 +65,34 @@ pub data Fault (s : Areas) (maps : List ℕ) : ℕ → ℕ → ℕ → Type 0 wh
   -- 3 "a map area is shorter than its arena's record count"; "for 3 the area is the map's arena"
   shortMap : {a : ℕ} → a < 5 → getD maps a 0 < recordsOf s a → Fault s maps 3 a 0
   -- 4 "a kind, flag, form, [..] unused slot or pool run breaks the rules above"
-  misshapen : (a : Arena) {h : ℕ} (k : ℕ) → h < size s a → k < width a → Misshapen s a h (slotAt s a h k) (word s a h k) → Fault s maps 4 (areaNumber a) h
+  misshapen : (a : Arena) {h : ℕ} (k : ℕ) → h < size s a → k < width a
+      → Misshapen s a h (slotAt s a h k) (word s a h k) → Fault s maps 4 (areaNumber a) h
   -- "A pool longer than its runs is 4 at the pool, record 0."
   longMembers : runsBefore s types (size s types) < length (pool s types) → Fault s maps 4 5 0
   longComponents : runsBefore s expressions (size s expressions) < length (pool s expressions) → Fault s maps 4 6 0
   -- "a [..] mention area [..] breaks the rules above"
   mentionArea : {h : ℕ} → h < mentionCount s → 5 ≤ mentionWord s h 0 → Fault s maps 4 7 h
   -- 5 "expression kind 13 or 27"
-  outOfScope : {h : ℕ} → h < size s expressions → (word s expressions h 0 ≡ 13) ⊎ (word s expressions h 0 ≡ 27) → Fault s maps 5 4 h
+  outOfScope : {h : ℕ} → h < size s expressions
+      → (word s expressions h 0 ≡ 13) ⊎ (word s expressions h 0 ≡ 27) → Fault s maps 5 4 h
   -- 6 "a handle that must be there is N, or any handle isn't below its area's record count"
-  missing : (a : Arena) {h : ℕ} (k : ℕ) → h < size s a → k < width a → Missing s (slotAt s a h k) (word s a h k) → Fault s maps 6 (areaNumber a) h
+  missing : (a : Arena) {h : ℕ} (k : ℕ) → h < size s a → k < width a
+      → Missing s (slotAt s a h k) (word s a h k) → Fault s maps 6 (areaNumber a) h
   -- "A fault in a pool's handle is charged to the record that owns the run."
-  missingInRun : (a : Arena) {h : ℕ} (i : ℕ) → h < size s a → i < length (run s a h) → Absent s a (getD (run s a h) i 0) → Fault s maps 6 (areaNumber a) h
-  missingMention : {h : ℕ} → h < mentionCount s → Absent s (numbered (mentionWord s h 0)) (mentionWord s h 1) → Fault s maps 6 7 h
+  missingInRun : (a : Arena) {h : ℕ} (i : ℕ) → h < size s a → i < length (run s a h)
+      → Absent s a (getD (run s a h) i 0) → Fault s maps 6 (areaNumber a) h
+  missingMention : {h : ℕ} → h < mentionCount s
+      → Absent s (numbered (mentionWord s h 0)) (mentionWord s h 1) → Fault s maps 6 7 h
   -- 7 "a type or expression isn't well ordered"
-  misplaced : (a : Arena) {h : ℕ} (y : Elem) → h < size s a → Leads s (at a h) y → Misplaced s (at a h) y → Fault s maps 7 (areaNumber a) h
+  misplaced : (a : Arena) {h : ℕ} (y : Elem) → h < size s a
+      → Leads s (at a h) y → Misplaced s (at a h) y → Fault s maps 7 (areaNumber a) h
 
--- "numbers 1 to 7 in turn and, within one number, [..] area order, lowest record first": the first place comes no later than the second
+-- "numbers 1 to 7 in turn [..] area order, lowest record first": the first place comes no later than the second
 abbrev pub NoLater : ℕ → ℕ → ℕ → ℕ → ℕ → ℕ → Type 0
 NoLater n a h n′ a′ h′ = (n < n′) ⊎ ((n ≡ n′) × ((a < a′) ⊎ ((a ≡ a′) × (h ≤ h′))))
 
 -- the verdict that the faults call for: accepted where there is none, otherwise the least
 abbrev pub CalledFor : Areas → List ℕ → Verdict → Type 0
 CalledFor s maps accepted = (n a h : ℕ) → Fault s maps n a h → ⊥
-CalledFor s maps (refused n a h) = Fault s maps n a h × ((n′ a′ h′ : ℕ) → Fault s maps n′ a′ h′ → NoLater n a h n′ a′ h′)
+CalledFor s maps (refused n a h) =
+    Fault s maps n a h × ((n′ a′ h′ : ℕ) → Fault s maps n′ a′ h′ → NoLater n a h n′ a′ h′)

@@ -1,4 +1,4 @@
--- Document 01, "Refusal numbers", the map entries: lookup, adjust and range over any map. In the Rust: `HandleMap::get`, `adjust`, `adjust_range`
+-- Document 01, "Refusal numbers", the map entries over any map. In the Rust: `HandleMap::get`, `adjust`, `adjust_range`
 -- Assumes nothing.
 use mathlib.Core.Bool.{_&&_, cond}
 use mathlib.Core.List.{[], _∷_}
@@ -44,4 +44,5 @@ spanned (w ∷ ws) = record { number = 0; start = w; end = last w ws + 1 }
 -- 8: "range end above it, or range start after its end"; "a refused range N..N"
 unfoldable pub range : Words → ℕ → ℕ → Ranged
 range map a b =
-    cond (leb b (length map) && leb a b) (spanned (live (take (b - a) (drop a map)))) (record { number = 8; start = N; end = N })
+    cond (leb b (length map) && leb a b) (spanned (live (take (b - a) (drop a map))))
+    (record { number = 8; start = N; end = N })

@@ -5,7 +5,8 @@ use mathlib.Core.List.{List, [], _∷_, _++_}
 use Prim.Native.Nat.{ℕ, zero, suc, _+_, _-_, max, min}
 use lib.Dec.{eqb, ltb, leb}
 use Rattle.definitions.specs.Lists.{all}
-use Rattle.definitions.specs.Areas.{N, Arena, types, constants, overrides, globals, expressions, Areas, Elem, at, size, word}
+use Rattle.definitions.specs.Areas.{N, Areas, size, word}
+use Rattle.definitions.specs.Areas.{Arena, types, constants, overrides, globals, expressions, Elem, at}
 use Rattle.definitions.specs.References.{references}
 
 -- "marking a constant, override or global marks its type and init at once": what is marked with an element
@@ -61,7 +62,7 @@ unfoldable pub later : Areas → Elem → Elem → Bool
 later s (at types t) (at types u) = ltb u t
 -- "an expression's expressions, and the init behind its constant or override, are older expressions"
 later s (at expressions e) (at expressions i) = ltb i e
--- "each type T that an expression names, or that stands behind its constant or override, has dep(T) below that expression"
+-- "each type T that an expression names, or that stands behind its constant [..], has dep(T) below that expression"
 later s (at expressions e) (at types u) = depBelow s u e
 -- nothing else is asked
 later s (at types t) (at constants h) = true

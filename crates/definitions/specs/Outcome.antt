@@ -4,7 +4,8 @@ use mathlib.Core.Bool.{Bool}
 use mathlib.Core.List.{List, [], _∷_}
 use Prim.Native.Nat.{ℕ}
 use lib.ListN.{length}
-use Rattle.definitions.specs.Areas.{Words, Arena, types, constants, overrides, globals, expressions, Areas, Elem, size}
+use Rattle.definitions.specs.Areas.{Words, Areas, Elem, eachArena, size}
+use Rattle.definitions.specs.Areas.{Arena, types, constants, overrides, globals, expressions}
 use Rattle.definitions.specs.Sweep.{kept}
 use Rattle.definitions.specs.Numbering.{isKept, rank, mapAfter}
 use Rattle.definitions.specs.Records.{runsUpTo, areasAfter}
@@ -28,7 +29,9 @@ mapOf p expressions = p .expressions
 
 -- the lengths of the maps, which is all that the check asks of them
 unfoldable pub lengths : Maps → List ℕ
-lengths p = length (p .types) ∷ length (p .constants) ∷ length (p .overrides) ∷ length (p .globals) ∷ length (p .expressions) ∷ []
+lengths p =
+    length (p .types) ∷ length (p .constants) ∷ length (p .overrides) ∷ length (p .globals)
+    ∷ length (p .expressions) ∷ []
 
 -- what a pass answers (number, area, record, counts) and what every lent word holds after it
 pub record Outcome : Type 0 where
@@ -42,14 +45,8 @@ pub record Outcome : Type 0 where
 -- "The counts are the kept records of areas 0 to 6."
 unfoldable pub keptCounts : Areas → List Elem → List ℕ
 keptCounts s m =
-    rank (isKept m types) (size s types)
-    ∷ rank (isKept m constants) (size s constants)
-    ∷ rank (isKept m overrides) (size s overrides)
-    ∷ rank (isKept m globals) (size s globals)
-    ∷ rank (isKept m expressions) (size s expressions)
-    ∷ length (runsUpTo s m types (size s types))
-    ∷ length (runsUpTo s m expressions (size s expressions))
-    ∷ []
+    eachArena (λ a. rank (isKept m a) (size s a))
+    (length (runsUpTo s m types (size s types)) ∷ length (runsUpTo s m expressions (size s expressions)) ∷ [])
 
 -- the five maps after
 unfoldable pub mapsAfter : Areas → List Elem → Maps → Maps
@@ -62,10 +59,18 @@ mapsAfter s m p =
       expressions = mapAfter s m expressions (p .expressions);
     }
 
--- the outcome by the verdict: "Accepted: number, area and record are 0."; refused: "It reports number, area, record. [..] The seven kept
--- counts are 0. No area or map changes."
+-- the outcome by the verdict: "Accepted: number, area and record are 0."; refused: "It reports number, area, record.
+-- [..] The seven kept counts are 0. No area or map changes."
 unfoldable pub outcomeOf : Areas → Maps → List Elem → Verdict → Outcome
-outcomeOf s p m accepted = record { number = 0; area = 0; recordNumber = 0; counts = keptCounts s m; areas = areasAfter s m; maps = mapsAfter s m p }
+outcomeOf s p m accepted =
+    record {
+      number = 0;
+      area = 0;
+      recordNumber = 0;
+      counts = keptCounts s m;
+      areas = areasAfter s m;
+      maps = mapsAfter s m p;
+    }
 outcomeOf s p m (refused nr a h) =
     record { number = nr; area = a; recordNumber = h; counts = 0 ∷ 0 ∷ 0 ∷ 0 ∷ 0 ∷ 0 ∷ 0 ∷ []; areas = s; maps = p }
 

@@ -1,4 +1,4 @@
--- Document 01, "Refusal numbers", the accepted module: records, pools, mentions and fill after. Each is given for the first h records, by h.
+-- Document 01, "Refusal numbers", the accepted module: areas after. Each part is given for the first h records, by h.
 -- Assumes nothing.
 use mathlib.Core.Bool.{cond}
 use mathlib.Core.List.{List, [], _∷_, _++_, map}
@@ -6,7 +6,8 @@ use Prim.Native.Nat.{ℕ, suc, _-_}
 use lib.ListN.{length, replicate}
 use lib.Dec.{eqb}
 use Rattle.definitions.specs.Lists.{total, gather, always}
-use Rattle.definitions.specs.Areas.{Words, N, Arena, types, constants, overrides, globals, expressions, Areas, Elem, numbered, size, word, mentionCount, mentionWord}
+use Rattle.definitions.specs.Areas.{Words, N, Areas, Elem, numbered, size, word, mentionCount, mentionWord}
+use Rattle.definitions.specs.Areas.{Arena, types, constants, overrides, globals, expressions}
 use Rattle.definitions.specs.Slots.{Slot, unused, free, below, must, may, start, count, layout}
 use Rattle.definitions.specs.References.{span, run}
 use Rattle.definitions.specs.Numbering.{newHandle, isKept}

@@ -5,7 +5,8 @@ use mathlib.Core.List.{List, [], _∷_, _++_, map}
 use Prim.Native.Nat.{ℕ, suc}
 use lib.ListN.{take, drop}
 use lib.Dec.{eqb}
-use Rattle.definitions.specs.Areas.{Words, N, Arena, types, constants, overrides, globals, expressions, Areas, Elem, at, word, pool}
+use Rattle.definitions.specs.Areas.{Words, N, Areas, Elem, at, word, pool}
+use Rattle.definitions.specs.Areas.{Arena, types, constants, overrides, globals, expressions}
 use Rattle.definitions.specs.Slots.{Slot, unused, free, below, must, may, start, count, layout}
 
 -- does the record have a run: a type of kind 3, a `Compose` ?
@@ -39,7 +40,7 @@ unfoldable pub namedFrom : (ℕ → ℕ) → ℕ → List Slot → List Elem
 namedFrom f k [] = []
 namedFrom f k (l ∷ ls) = namedBy l (f k) ++ namedFrom f (suc k) ls
 
--- "A constant, override or global refers to its type and its init, if any. A type refers to its base or members, and kind 2 also to its
--- override. An expression refers to what its slots and its run name."
+-- "A constant, override or global refers to its type and its init, if any. A type refers to its base or members, and
+-- kind 2 also to its override. An expression refers to what its slots and its run name."
 unfoldable pub references : Areas → Elem → List Elem
 references s (at a h) = namedFrom (word s a h) 0 (layout s a h) ++ map (at a) (run s a h)

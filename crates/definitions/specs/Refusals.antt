@@ -6,7 +6,8 @@ use Prim.Native.Nat.{ℕ, zero, suc, _+_, _%_}
 use lib.ListN.{length, getD}
 use lib.Dec.{eqb, ltb, leb}
 use Rattle.definitions.specs.Lists.{total, always, all}
-use Rattle.definitions.specs.Areas.{N, Arena, types, constants, overrides, globals, expressions, Areas, Elem, at, areaNumber, widths, limits, lengthOf, recordsOf, size, word, pool, mentionCount, mentionWord}
+use Rattle.definitions.specs.Areas.{N, Areas, Arena, types, expressions, eachArena, areaNumber, size, Elem, at}
+use Rattle.definitions.specs.Areas.{word, pool, widths, limits, lengthOf, recordsOf, mentionCount, mentionWord}
 use Rattle.definitions.specs.Slots.{Slot, unused, free, below, must, may, start, count, layout}
 use Rattle.definitions.specs.References.{span, run}
 use Rattle.definitions.specs.Roots.{mention}
@@ -21,7 +22,7 @@ unfoldable pub passes : Verdict → Bool
 passes accepted = true
 passes (refused nr a h) = false
 
--- "The check runs numbers 1 to 7 in turn and, within one number, stops at the first fault in area order, lowest record first."
+-- "within one number, stops at the first fault in area order, lowest record first"
 unfoldable pub firstOf : List Verdict → Verdict
 firstOf [] = accepted
 firstOf (accepted ∷ l) = firstOf l
@@ -65,8 +66,8 @@ every p f k (l ∷ ls) = p l (f k) && every p f (suc k) ls
 unfoldable pub runsBefore : Areas → Arena → ℕ → ℕ
 runsBefore s a h = total always (span s a) h
 
--- 4 "a kind, flag, form, mention area, unused slot or pool run breaks the rules above"; "Pool runs are packed: each start is the sum of the
--- counts before it in that area, start plus count stays within the pool": a word of record h
+-- 4 "a kind, flag, form, mention area, unused slot or pool run breaks the rules above"; "Pool runs are packed: each
+-- start is the sum of the counts before it in that area, start plus count stays within the pool": a word of record h
 unfoldable pub shaped : Areas → Arena → ℕ → Slot → ℕ → Bool
 shaped s a h unused w = eqb w N
 shaped s a h free w = true
@@ -87,15 +88,8 @@ poolUsed area s a = cond (eqb (runsBefore s a (size s a)) (length (pool s a))) a
 unfoldable pub check4 : Areas → Verdict
 check4 s =
     firstOf
-    (scanRecords 4 shapedAt s types
-    ∷ scanRecords 4 shapedAt s constants
-    ∷ scanRecords 4 shapedAt s overrides
-    ∷ scanRecords 4 shapedAt s globals
-    ∷ scanRecords 4 shapedAt s expressions
-    ∷ poolUsed 5 s types
-    ∷ poolUsed 6 s expressions
-    ∷ scanMentions 4 (λ h. ltb (mentionWord s h 0) 5) s
-    ∷ [])
+    (eachArena (scanRecords 4 shapedAt s)
+    (poolUsed 5 s types ∷ poolUsed 6 s expressions ∷ scanMentions 4 (λ h. ltb (mentionWord s h 0) 5) s ∷ []))
 
 -- 5 "expression kind 13 or 27"
 unfoldable pub ofModule : Areas → Arena → ℕ → Bool
@@ -123,15 +117,7 @@ unfoldable pub heldAt : Areas → Arena → ℕ → Bool
 heldAt s a h = every (held s) (word s a h) 0 (layout s a h) && all (λ w. inside s (at a w)) (run s a h)
 
 unfoldable pub check6 : Areas → Verdict
-check6 s =
-    firstOf
-    (scanRecords 6 heldAt s types
-    ∷ scanRecords 6 heldAt s constants
-    ∷ scanRecords 6 heldAt s overrides
-    ∷ scanRecords 6 heldAt s globals
-    ∷ scanRecords 6 heldAt s expressions
-    ∷ scanMentions 6 (λ h. inside s (mention s h)) s
-    ∷ [])
+check6 s = firstOf (eachArena (scanRecords 6 heldAt s) (scanMentions 6 (λ h. inside s (mention s h)) s ∷ []))
 
 -- 7 "a type or expression isn't well ordered"; "Every type and every expression must be well ordered, kept or not."
 unfoldable pub check7 : Areas → Verdict

@@ -5,7 +5,8 @@ use mathlib.Core.List.{List, [], _++_, map}
 use Prim.Native.Nat.{ℕ, _/_, _%_}
 use lib.Dec.{eqb}
 use Rattle.definitions.specs.Lists.{always, countUp, select}
-use Rattle.definitions.specs.Areas.{Arena, types, constants, overrides, globals, Areas, Elem, at, numbered, size, word, mentionCount, mentionWord}
+use Rattle.definitions.specs.Areas.{Areas, Arena, types, constants, overrides, globals, numbered, Elem, at}
+use Rattle.definitions.specs.Areas.{size, word, mentionCount, mentionWord}
 
 -- the elements of an arena that pass a test
 unfoldable pub those : Areas → Arena → (ℕ → Bool) → List Elem

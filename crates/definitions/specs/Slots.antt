@@ -1,4 +1,4 @@
--- Document 01, "The eight areas": what each word of a record is. One table serves the references, checks 4 and 6, and the adjusting.
+-- Document 01, "The eight areas": what each word of a record is. One table serves references, checks and adjusting.
 -- Assumes nothing.
 use mathlib.Core.Bool.{cond}
 use mathlib.Core.List.{List, [], _∷_, _++_}
@@ -41,7 +41,7 @@ two = must expressions ∷ one
 abbrev three : List Slot
 three = must expressions ∷ two
 
--- "Check 4 passes over them and doesn't read their slots."
+-- nine words of which none is read: "Check 4 passes over them and doesn't read their slots."
 abbrev unread : List Slot
 unread = free ∷ free ∷ free ∷ free ∷ free ∷ free ∷ free ∷ free ∷ free ∷ []
 
@@ -55,6 +55,12 @@ levelSlots =
     ∷ (must expressions ∷ must expressions ∷ [])  -- 4 gradient x y
     ∷ []
 
+-- image, sampler, coordinate, array index?, offset?, level form, x and y by the form, depth reference?
+abbrev sampleSlots : ℕ → List Slot
+sampleSlots form =
+    three ++ (may expressions ∷ may expressions ∷ below 5 ∷ []) ++ getD levelSlots form (unused ∷ unused ∷ [])
+    ++ (may expressions ∷ [])
+
 -- the level of an `ImageQuery`, by its form
 unfoldable pub querySlots : ℕ → List Slot
 querySlots zero = may expressions ∷ []  -- 0 size
@@ -67,7 +73,8 @@ formOf f = cond (eqb (f 0) 15) (f 6) (cond (eqb (f 0) 17) (f 2) 0)
 -- "the 34 variants in the order of the match in `trace_expression`": the named slots, by the kind
 unfoldable pub exprSlots : ℕ → List (List Slot)
 exprSlots form =
-    [] ∷ [] ∷ [] ∷ [] ∷ []  -- 0 `Literal` 1 `FunctionArgument` 2 `LocalVariable` 3 `SubgroupBallotResult` 4 `RayQueryProceedResult`: no slot
+    -- 0 `Literal` 1 `FunctionArgument` 2 `LocalVariable` 3 `SubgroupBallotResult` 4 `RayQueryProceedResult`: no slot
+    [] ∷ [] ∷ [] ∷ [] ∷ []
     ∷ (must constants ∷ [])  -- 5 `Constant`
     ∷ (must overrides ∷ [])  -- 6 `Override`
     ∷ (must types ∷ [])  -- 7 `ZeroValue`
@@ -76,17 +83,20 @@ exprSlots form =
     ∷ one ∷ one ∷ one  -- 10 `AccessIndex` 11 `Splat` 12 `Swizzle`
     ∷ unread  -- 13 `GlobalVariable`: not at module scope
     ∷ one  -- 14 `Load`
-    ∷ (three ++ (may expressions ∷ may expressions ∷ below 5 ∷ []) ++ getD levelSlots form (unused ∷ unused ∷ []) ++ (may expressions ∷ []))  -- 15 `ImageSample`
-    ∷ (two ++ (may expressions ∷ may expressions ∷ may expressions ∷ []))  -- 16 `ImageLoad`
-    ∷ (one ++ (below 4 ∷ []) ++ querySlots form)  -- 17 `ImageQuery`
+    ∷ sampleSlots form  -- 15 `ImageSample`
+    -- 16 `ImageLoad`: image, coordinate, array index?, sample?, level?
+    ∷ (two ++ (may expressions ∷ may expressions ∷ may expressions ∷ []))
+    ∷ (one ++ (below 4 ∷ []) ++ querySlots form)  -- 17 `ImageQuery`: image, form, level? by the form
     ∷ one ∷ one  -- 18 `RayQueryVertexPositions` 19 `Unary`
     ∷ two  -- 20 `Binary`
     ∷ three  -- 21 `Select`
     ∷ one ∷ one  -- 22 `Derivative` 23 `Relational`
-    ∷ (one ++ (may expressions ∷ may expressions ∷ may expressions ∷ []))  -- 24 `Math`
+    -- 24 `Math`: one expression, then three that may be N
+    ∷ (one ++ (may expressions ∷ may expressions ∷ may expressions ∷ []))
     ∷ one ∷ one  -- 25 `As` 26 `ArrayLength`
     ∷ unread  -- 27 `CallResult`: not at module scope
-    ∷ (must types ∷ []) ∷ (must types ∷ []) ∷ (must types ∷ [])  -- 28 `AtomicResult` 29 `WorkGroupUniformLoadResult` 30 `SubgroupOperationResult`
+    -- 28 `AtomicResult` 29 `WorkGroupUniformLoadResult` 30 `SubgroupOperationResult`
+    ∷ (must types ∷ []) ∷ (must types ∷ []) ∷ (must types ∷ [])
     ∷ one  -- 31 `RayQueryGetIntersection`
     ∷ two  -- 32 `CooperativeLoad`
     ∷ three  -- 33 `CooperativeMultiplyAdd`

@@ -19,7 +19,7 @@ use Rattle.definitions.specs.References.{span, run}
 use Rattle.definitions.specs.Refusals.{accepted, refused, every, runsBefore, shapedAt, heldAt}
 use Rattle.definitions.specs.Order.{wellOrdered}
 use Rattle.definitions.proofs.Least.{and-left, and-right}
-use Rattle.definitions.proofs.AcceptedAfter.{both}
+use Rattle.definitions.proofs.Least.{both}
 use Rattle.slots.specs.Codes.{wordsFrom, spanIn, runIn}
 use Rattle.slots.proofs.Decision.{at-keys, in-range}
 use Rattle.rules.specs.declared.Limits.{Limits}

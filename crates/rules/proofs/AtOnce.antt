@@ -13,7 +13,7 @@ use Rattle.definitions.specs.References.{namedBy}
 use Rattle.definitions.specs.Order.{withBehind}
 use Rattle.definitions.specs.Refusals.{every}
 use Rattle.definitions.proofs.Least.{and-left, and-right}
-use Rattle.definitions.proofs.AcceptedAfter.{both}
+use Rattle.definitions.proofs.Least.{both}
 use Rattle.slots.specs.Part.{part}
 use Rattle.slots.proofs.Laws.{every-tag}
 use Rattle.rules.specs.declared.Limits.{Limits}
