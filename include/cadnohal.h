@@ -22,6 +22,11 @@
  *
  * Each of areas 0 to 4 has a map of at least as many words as it has records.
  *
+ * The mentions are what functions, entry points and special types name; each is a root, whatever the flag. The Rust
+ * with KeepUnused::No traces only the entry points and the functions that calls reach from them, with Yes every
+ * function. A host that wants the same kept gives the mentions of just those: what an unreached function names would
+ * stay too if it were mentioned.
+ *
  * The numbers of an answer:
  *
  *   0  accepted

@@ -130,7 +130,7 @@ fn source(words: &[u32], i: usize, back: usize, w: u32) -> u32 {
 }
 
 // Puts n words from a start on, as far as there is room, and says where they end.
-fn fill(words: &mut [u32], from: usize, n: usize, back: usize, w: u32) -> usize {
+fn lay(words: &mut [u32], from: usize, n: usize, back: usize, w: u32) -> usize {
     let start = least(from, words.len());
     let end = start + least(n, words.len() - start);
     let mut i = start;
@@ -155,11 +155,11 @@ fn put(line: &[u8], area: usize, words: &mut [u32], from: usize) -> usize {
     let mut i = 0;
     while i < line.len() {
         let b = line[i];
-        end = fill(words, end, ready(r, b), r.back, r.value);
+        end = lay(words, end, ready(r, b), r.back, r.value);
         r = step(r, b, letter, width);
         i += 1;
     }
-    fill(words, end, ready(r, b' '), r.back, r.value)
+    lay(words, end, ready(r, b' '), r.back, r.value)
 }
 
 // The verdict on the module of a line: its areas lie one after another.

@@ -32,8 +32,8 @@ shared-slice-read-b c = omega arith
 ready-requires : tie.Need-ready-requires Inv-loop μ-loop
 ready-requires c κs = search needs
 
-fill-requires : tie.Need-fill-requires Inv-loop μ-loop
-fill-requires c κs = search needs
+lay-requires : tie.Need-lay-requires Inv-loop μ-loop
+lay-requires c κs = search needs
 
 step-requires : tie.Need-step-requires Inv-loop μ-loop
 step-requires c κs = search needs
@@ -45,16 +45,16 @@ loop-less : tie.Need-loop-less Inv-loop μ-loop
 loop-less c = omega arith
 
 loop-again : tie.Need-loop-again Inv-loop μ-loop
-loop-again c = c .before .before .before .fill .kept .0 ∙ c .before .before .before .before .before .before .before .before .loop .inv
+loop-again c = c .before .before .before .lay .kept .0 ∙ c .before .before .before .before .before .before .before .before .loop .inv
 
 ready-requires-2 : tie.Need-ready-requires-2 Inv-loop μ-loop
 ready-requires-2 c κs = search needs
 
-fill-requires-2 : tie.Need-fill-requires-2 Inv-loop μ-loop
-fill-requires-2 c κs = search needs
+lay-requires-2 : tie.Need-lay-requires-2 Inv-loop μ-loop
+lay-requires-2 c κs = search needs
 
 same-length : tie.Need-same-length Inv-loop μ-loop
-same-length c = c .before .before .fill2 .kept .0 ∙ c .before .before .before .before .before .before .loop .inv
+same-length c = c .before .before .lay2 .kept .0 ∙ c .before .before .before .before .before .before .loop .inv
 
 returns : tie.Need-returns Inv-loop μ-loop
 returns c = search needs
@@ -71,12 +71,12 @@ put-spec =
     loop-holds
     shared-slice-read-b
     ready-requires
-    fill-requires
+    lay-requires
     step-requires
     add-i
     loop-less
     loop-again
     ready-requires-2
-    fill-requires-2
+    lay-requires-2
     same-length
     returns)

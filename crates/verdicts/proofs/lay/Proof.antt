@@ -1,12 +1,12 @@
--- `fill` is safe and ends: the words keep their number, and no place is past them.
+-- `lay` is safe and ends: the words keep their number, and no place is past them.
 -- Assumes nothing.
 use mathlib.Core.Path.{_≡_}
 use Prim.Native.Nat.{_≤_, _-_}
 use native.Mathlib.Omega.{arith}
 use lib.ListN.{length, length-set}
 use borrow.Author.Needs.{needs}
-use Rattle.verdicts.proofs.fill.Statement.{statement}
-use Rattle.verdicts.proofs.fill.Tie as tie
+use Rattle.verdicts.proofs.lay.Statement.{statement}
+use Rattle.verdicts.proofs.lay.Tie as tie
 
 abbrev Inv-loop : tie.InvT-loop
 Inv-loop words₀ from n back w start end i₀ words i = (end ≤ length words) × (length words ≡ length words₀)
@@ -53,8 +53,8 @@ same-length c = c .before .loop .inv .1
 returns : tie.Need-returns Inv-loop μ-loop
 returns c = search needs
 
-pub fill-spec : {M : Type 1} → statement M
-fill-spec =
+pub lay-spec : {M : Type 1} → statement M
+lay-spec =
     tie.close
     (tie.spec
     Inv-loop
