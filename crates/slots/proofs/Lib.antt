@@ -1,4 +1,5 @@
 -- The laws that callers cite.
 pub mod Decision
 pub mod Numbered
+pub mod Packing
 pub mod Laws

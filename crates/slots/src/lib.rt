@@ -3,8 +3,8 @@ ghost use mathlib.Core.Path.{_≡_};
 ghost use Prim.Native.Nat.{_+_, _%_, min};
 ghost use lib.ListN.{getD, take, drop};
 ghost use Rattle.definitions.specs.Areas.{numbered, at, width};
-ghost use Rattle.definitions.specs.Slots.{formOf, fill, body, typeBody, exprBody};
-ghost use Rattle.slots.specs.Codes.{decoded, unpacked, arenaOf, slotOf, wordsFrom, spanIn, runIn};
+ghost use Rattle.definitions.specs.Slots.{formOf, body, typeBody, exprBody};
+ghost use Rattle.slots.specs.Codes.{decoded, packed, arenaOf, slotOf, wordsFrom, spanIn, runIn};
 ghost use Rattle.arena.specs.Elements.{elementOf};
 use arena::Constant;
 use arena::ConstantHandle;
@@ -87,7 +87,7 @@ pub fn first(shape: u64) -> Slot
 
 // The slots of an expression's body, by its kind and its level or query form.
 pub fn expression_shape(kind: u32, form: u32) -> u64
-    ensures { λ r. ⌜ unpacked r 10 ≡ fill 10 (exprBody kind form) ⌝ }
+    ensures { λ r. ⌜ r ≡ packed (exprBody kind form) ⌝ }
 {
     match kind {
         5 => 0x3C,
@@ -109,7 +109,7 @@ pub fn expression_shape(kind: u32, form: u32) -> u64
 
 // `ImageSample`: x and y by the level form.
 fn sample_shape(form: u32) -> u64
-    ensures { λ r. ⌜ unpacked r 10 ≡ fill 10 (exprBody 15 form) ⌝ }
+    ensures { λ r. ⌜ r ≡ packed (exprBody 15 form) ⌝ }
 {
     match form {
         2 | 3 => 0x605B66555C,
@@ -120,7 +120,7 @@ fn sample_shape(form: u32) -> u64
 
 // `ImageQuery`: the level by the query form.
 fn query_shape(form: u32) -> u64
-    ensures { λ r. ⌜ unpacked r 10 ≡ fill 10 (exprBody 17 form) ⌝ }
+    ensures { λ r. ⌜ r ≡ packed (exprBody 17 form) ⌝ }
 {
     match form {
         0 => 0x6A5C,
@@ -130,7 +130,7 @@ fn query_shape(form: u32) -> u64
 
 // The slots of a type's body, by its kind.
 fn type_shape(kind: u32) -> u64
-    ensures { λ r. ⌜ unpacked r 10 ≡ fill 10 (typeBody kind) ⌝ }
+    ensures { λ r. ⌜ r ≡ packed (typeBody kind) ⌝ }
 {
     match kind {
         1 => 0x2AA,
@@ -156,7 +156,7 @@ fn form(ws: &[u32], at: usize) -> u32
 
 // The slots of the body of the record that starts at a place, by its area.
 pub fn shape(area: u32, ws: &[u32], at: usize) -> u64
-    ensures { λ r. ⌜ unpacked r 10 ≡ fill 10 (body (numbered area) (wordsFrom (now (ws .entry)) at)) ⌝ }
+    ensures { λ r. ⌜ r ≡ packed (body (numbered area) (wordsFrom (now (ws .entry)) at)) ⌝ }
 {
     match area {
         0 => type_shape(word(ws, at, 0)),

@@ -9,14 +9,14 @@ use native.Mathlib.Omega.{arith}
 use lib.ListN.{List·getD-eq-default}
 use borrow.Author.Needs.{needs}
 use Rattle.definitions.specs.Slots.{below, fill, exprBody, exprSlots, levelSlots, querySlots}
-use Rattle.slots.specs.Codes.{codes, decoded, unpacked}
+use Rattle.slots.specs.Codes.{codeOf, packed}
 use Rattle.slots.proofs.Decision.{at-keys, in-range}
 use Rattle.slots.proofs.expression_shape.Statement.{statement}
 use Rattle.slots.proofs.expression_shape.Tie as tie
 
 -- opens the table
 table : ℕ
-unfolding exprBody exprSlots levelSlots querySlots fill decoded codes unpacked
+unfolding exprBody exprSlots levelSlots querySlots fill codeOf packed
 table = 0
 
 -- the keys of the arms, the last first
@@ -25,11 +25,11 @@ keys = (24 ∷ []) ∷ (21 ∷ 33 ∷ []) ∷ (17 ∷ []) ∷ (16 ∷ []) ∷ (1
 
 -- the shape v is that of kind k
 abbrev Right : ℕ → ℕ → ℕ → Type 0
-Right v form k = unpacked v 10 ≡ fill 10 (exprBody k form)
+Right v form k = v ≡ packed (exprBody k form)
 
 past-table : (form k : ℕ) → 34 ≤ k → Right 12 form k
 unfolding table
-past-table form k l = ap (λ r. fill 10 (below 34 ∷ fill 9 r)) (sym (List·getD-eq-default (exprSlots form) [] l))
+past-table form k l = ap (λ r. packed (below 34 ∷ fill 9 r)) (sym (List·getD-eq-default (exprSlots form) [] l))
 
 lt-or-le : (a b : ℕ) → (a < b) ⊎ (b ≤ a)
 lt-or-le a b = go (decLe b a)
@@ -65,14 +65,14 @@ unfolding table
 returns-5 c = at-keys (Right 73300775196 (c .before .args .form)) (13 ∷ 27 ∷ []) (refl, (refl, tt)) _ (c .match .keys7)
 
 returns-6 : tie.Need-returns-6
-returns-6 c = c .sample-shape .ensures ∙ ap (λ k. fill 10 (exprBody k (c .before .before .args .form))) (sym (c .before .match .keys8))
+returns-6 c = c .sample-shape .ensures ∙ ap (λ k. packed (exprBody k (c .before .before .args .form))) (sym (c .before .match .keys8))
 
 returns-7 : tie.Need-returns-7
 unfolding table
 returns-7 c = at-keys (Right 6710620 (c .before .args .form)) (16 ∷ []) (refl, tt) _ (c .match .keys9)
 
 returns-8 : tie.Need-returns-8
-returns-8 c = c .query-shape .ensures ∙ ap (λ k. fill 10 (exprBody k (c .before .before .args .form))) (sym (c .before .match .keys10))
+returns-8 c = c .query-shape .ensures ∙ ap (λ k. packed (exprBody k (c .before .before .args .form))) (sym (c .before .match .keys10))
 
 returns-9 : tie.Need-returns-9
 unfolding table

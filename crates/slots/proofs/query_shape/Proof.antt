@@ -6,19 +6,19 @@ use Prim.Native.Nat.{ℕ, zero, suc, _≤_, _<_}
 use native.Mathlib.Omega.{arith}
 use lib.ListN.{List·getD-eq-default}
 use Rattle.definitions.specs.Slots.{unused, below, fill, exprBody, exprSlots, levelSlots, querySlots}
-use Rattle.slots.specs.Codes.{codes, decoded, unpacked}
+use Rattle.slots.specs.Codes.{codeOf, packed}
 use Rattle.slots.proofs.Decision.{at-keys, in-range}
 use Rattle.slots.proofs.query_shape.Statement.{statement}
 use Rattle.slots.proofs.query_shape.Tie as tie
 
 -- opens the table
 table : ℕ
-unfolding exprBody exprSlots levelSlots querySlots fill decoded codes unpacked
+unfolding exprBody exprSlots levelSlots querySlots fill codeOf packed
 table = 0
 
 -- the shape v is that of the form
 abbrev Right : ℕ → ℕ → Type 0
-Right v form = unpacked v 10 ≡ fill 10 (exprBody 17 form)
+Right v form = v ≡ packed (exprBody 17 form)
 
 -- forms 1 to 3 have no level, and neither has any other
 counts : (form : ℕ) → (form ≡ 0 → ⊥) → Right 2652 form

@@ -4,19 +4,19 @@ use mathlib.Core.Path.{_≡_, refl}
 use mathlib.Core.List.{[], _∷_}
 use Prim.Native.Nat.{ℕ, zero, suc}
 use Rattle.definitions.specs.Slots.{fill, typeBody, typeSlots}
-use Rattle.slots.specs.Codes.{codes, decoded, unpacked}
+use Rattle.slots.specs.Codes.{codeOf, packed}
 use Rattle.slots.proofs.Decision.{at-keys}
 use Rattle.slots.proofs.type_shape.Statement.{statement}
 use Rattle.slots.proofs.type_shape.Tie as tie
 
 -- opens the table
 table : ℕ
-unfolding typeBody typeSlots fill decoded codes unpacked
+unfolding typeBody typeSlots fill codeOf packed
 table = 0
 
 -- the shape v is that of the kind
 abbrev Right : ℕ → ℕ → Type 0
-Right v kind = unpacked v 10 ≡ fill 10 (typeBody kind)
+Right v kind = v ≡ packed (typeBody kind)
 
 others : (kind : ℕ) → (kind ≡ 1 → ⊥) → (kind ≡ 2 → ⊥) → (kind ≡ 3 → ⊥) → Right 170 kind
 unfolding table
