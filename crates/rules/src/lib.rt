@@ -26,6 +26,7 @@ use arena::Type;
 use arena::TypeHandle;
 use slots::Arena;
 use slots::Slot;
+use slots::code;
 
 // How many records each arena has.
 pub struct Sizes {
@@ -225,7 +226,7 @@ fn slots_keep(
         ) {
             return false;
         }
-        rest = rest / 16;
+        rest = rest / code::BASE;
         k += 1;
     }
     true
@@ -292,18 +293,18 @@ fn slot_good(l: Limits, code: u64, w: u32, constants: &[u32], overrides: &[u32])
     ensures { λ r. ⌜ r ≡ goodBy (now (constants .entry)) (now (overrides .entry)) l (decoded code) w ⌝ }
 {
     match code {
-        1 => false,
-        2 => w < l.types,
-        3 => constant_fits(l, ConstantHandle(w), constants),
-        4 => override_fits(l, OverrideHandle(w), overrides),
-        5 => w < l.expressions,
-        6 => w == N || w < l.expressions,
-        7 => w as usize == l.run.sum && w as usize + l.run.span as usize <= l.run.room,
-        8 => true,
-        9 => w < 2,
-        10 => w < 4,
-        11 => w < 5,
-        12 => w < 34,
+        code::FREE => false,
+        code::TYPE => w < l.types,
+        code::CONSTANT => constant_fits(l, ConstantHandle(w), constants),
+        code::OVERRIDE => override_fits(l, OverrideHandle(w), overrides),
+        code::EXPRESSION => w < l.expressions,
+        code::MAYBE => w == N || w < l.expressions,
+        code::START => w as usize == l.run.sum && w as usize + l.run.span as usize <= l.run.room,
+        code::COUNT => true,
+        code::BELOW_2 => w < 2,
+        code::BELOW_4 => w < 4,
+        code::BELOW_5 => w < 5,
+        code::BELOW_34 => w < 34,
         _ => w == N,
     }
 }
@@ -340,10 +341,16 @@ fn slots_good(
         if rest == 0 {
             return blank(ws, at, k, n);
         }
-        if !slot_good(l, rest % 16, slots::word(ws, at, k), constants, overrides) {
+        if !slot_good(
+            l,
+            rest % code::BASE,
+            slots::word(ws, at, k),
+            constants,
+            overrides,
+        ) {
             return false;
         }
-        rest = rest / 16;
+        rest = rest / code::BASE;
         k += 1;
     }
     true

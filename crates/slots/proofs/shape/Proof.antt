@@ -1,6 +1,6 @@
 -- `slots::shape` meets its contract.
 -- Assumes nothing.
-use mathlib.Core.Path.{_≡_, refl, sym, ap, ap₂, _∙_}
+use mathlib.Core.Path.{_≡_, refl, ap, ap₂, _∙_}
 use mathlib.Core.List.{[], _∷_}
 use Prim.Native.Nat.{ℕ}
 use Rattle.definitions.specs.Areas.{numbered}
@@ -37,15 +37,15 @@ returns c = at-keys (Right (c .type-shape .result) (wordsFrom (c .before .before
 
 returns-2 : tie.Need-returns-2
 unfolding numbered body fill codeOf packed
-returns-2 c = at-keys (Right 1321 (wordsFrom (c .before .before .args .ws .now) (c .before .before .args .at))) (1 ∷ []) (refl, tt) _ (c .match .keys2)
+returns-2 c = at-keys (Right _ (wordsFrom (c .before .before .args .ws .now) (c .before .before .args .at))) (1 ∷ []) (refl, tt) _ (c .match .keys2)
 
 returns-3 : tie.Need-returns-3
 unfolding numbered body fill codeOf packed
-returns-3 c = at-keys (Right 1577 (wordsFrom (c .before .before .args .ws .now) (c .before .before .args .at))) (2 ∷ []) (refl, tt) _ (c .match .keys3)
+returns-3 c = at-keys (Right _ (wordsFrom (c .before .before .args .ws .now) (c .before .before .args .at))) (2 ∷ []) (refl, tt) _ (c .match .keys3)
 
 returns-4 : tie.Need-returns-4
 unfolding numbered body fill codeOf packed
-returns-4 c = at-keys (Right 98 (wordsFrom (c .before .before .args .ws .now) (c .before .before .args .at))) (3 ∷ []) (refl, tt) _ (c .match .keys4)
+returns-4 c = at-keys (Right _ (wordsFrom (c .before .before .args .ws .now) (c .before .before .args .at))) (3 ∷ []) (refl, tt) _ (c .match .keys4)
 
 returns-5 : tie.Need-returns-5
 unfolding body

@@ -1,15 +1,13 @@
--- `slots::query_shape` meets its contract.
+-- `slots::shapes::query_shape` meets its contract.
 -- Assumes nothing.
-use mathlib.Core.Path.{_≡_, refl, sym, ap}
-use mathlib.Core.List.{List, [], _∷_}
-use Prim.Native.Nat.{ℕ, zero, suc, _≤_, _<_}
-use native.Mathlib.Omega.{arith}
-use lib.ListN.{List·getD-eq-default}
-use Rattle.definitions.specs.Slots.{unused, below, fill, exprBody, exprSlots, levelSlots, querySlots}
+use mathlib.Core.Path.{_≡_, refl}
+use mathlib.Core.List.{[], _∷_}
+use Prim.Native.Nat.{ℕ, zero, suc}
+use Rattle.definitions.specs.Slots.{fill, exprBody, exprSlots, levelSlots, querySlots}
 use Rattle.slots.specs.Codes.{codeOf, packed}
-use Rattle.slots.proofs.Decision.{at-keys, in-range}
-use Rattle.slots.proofs.query_shape.Statement.{statement}
-use Rattle.slots.proofs.query_shape.Tie as tie
+use Rattle.slots.proofs.Decision.{at-keys}
+use Rattle.slots.proofs.shapes.query_shape.Statement.{statement}
+use Rattle.slots.proofs.shapes.query_shape.Tie as tie
 
 -- opens the table
 table : ℕ
@@ -28,7 +26,7 @@ counts (suc form) n = refl
 
 returns : tie.Need-returns
 unfolding table
-returns c = at-keys (Right 27228) (0 ∷ []) (refl, tt) _ (c .match .keys1)
+returns c = at-keys (Right _) (0 ∷ []) (refl, tt) _ (c .match .keys1)
 
 returns-2 : tie.Need-returns-2
 returns-2 c = counts _ (c .match .rest .1)
