@@ -13,7 +13,7 @@ ghost use Rattle.definitions.specs.Refusals.{every};
 ghost use Rattle.arena.specs.Elements.{elementOf};
 ghost use Rattle.slots.specs.Codes.{decoded, unpacked, wordsFrom, arenaOf, slotOf, spanIn};
 ghost use Rattle.slots.specs.Part.{part};
-ghost use Rattle.rules.specs.Rules.{sizeIn, shapedBy, heldBy, within, asked, empty, fitBy, goodBy, leading};
+ghost use Rattle.rules.specs.Rules.{sizeIn, shapedBy, heldBy, within, asked, empty, fitBy, typedBy, goodBy, leading};
 use arena::Constant;
 use arena::ConstantHandle;
 use arena::Element;
@@ -356,29 +356,18 @@ fn slots_good(
     true
 }
 
-// Are word k, a type, and the word after it, an init, good ? Unless it must be there the init may be N.
-fn typed_good(l: Limits, ws: &[u32], at: usize, k: usize, must: bool) -> bool
-    requires { ⌜ k < 2 ⌝ }
-    ensures { λ r. ⌜ r ≡ (ltb (wordsFrom (now (ws .entry)) at k) (l .types) && (cond must false (eqb (wordsFrom (now (ws .entry)) at (suc k)) N) || ltb (wordsFrom (now (ws .entry)) at (suc k)) (l .expressions))) ⌝ }
+// Are a type and an init good, at their places in the record ? Unless it must be there the init may be N.
+fn typed_good(l: Limits, ws: &[u32], at: usize, ty: usize, init: usize, must: bool) -> bool
+    ensures { λ r. ⌜ r ≡ typedBy l must (wordsFrom (now (ws .entry)) at ty) (wordsFrom (now (ws .entry)) at init) ⌝ }
 {
-    if l.types <= slots::word(ws, at, k) {
+    if l.types <= slots::word(ws, at, ty) {
         return false;
     }
-    let init = slots::word(ws, at, k + 1);
-    if init == N {
+    let e = slots::word(ws, at, init);
+    if e == N {
         return !must;
     }
-    init < l.expressions
-}
-
-// Is the first word a flag, and are the type and the init after it good ?
-fn named_good(l: Limits, ws: &[u32], at: usize, must: bool) -> bool
-    ensures { λ r. ⌜ r ≡ (ltb (wordsFrom (now (ws .entry)) at 0) 2 && (ltb (wordsFrom (now (ws .entry)) at 1) (l .types) && (cond must false (eqb (wordsFrom (now (ws .entry)) at 2) N) || ltb (wordsFrom (now (ws .entry)) at 2) (l .expressions)))) ⌝ }
-{
-    if 2 <= slots::word(ws, at, 0) {
-        return false;
-    }
-    typed_good(l, ws, at, 1, must)
+    e < l.expressions
 }
 
 // Are all words of the record that starts at a place good, but its tag ?
@@ -393,9 +382,15 @@ pub fn record_good(
     ensures { λ r. ⌜ r ≡ every (goodBy (now (constants .entry)) (now (overrides .entry)) l) (wordsFrom (now (ws .entry)) at) 0 (body (numbered area) (wordsFrom (now (ws .entry)) at)) ⌝ }
 {
     match area {
-        1 => named_good(l, ws, at, true),
-        2 => named_good(l, ws, at, false),
-        3 => typed_good(l, ws, at, 0, false),
+        1 => {
+            slots::word(ws, at, Constant::NAMED) < 2
+                && typed_good(l, ws, at, Constant::TYPE, Constant::INIT, true)
+        }
+        2 => {
+            slots::word(ws, at, Override::NAMED) < 2
+                && typed_good(l, ws, at, Override::TYPE, Override::INIT, false)
+        }
+        3 => typed_good(l, ws, at, Global::TYPE, Global::INIT, false),
         _ => slots_good(
             l,
             ws,
