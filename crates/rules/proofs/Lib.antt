@@ -2,6 +2,5 @@
 pub mod Arms
 pub mod Behind
 pub mod Every
-pub mod Places
 pub mod Laws
 pub mod AtOnce

@@ -1,8 +1,8 @@
 // One record under numbers 4, 6 and 7: what is asked of its words and of its run.
 ghost use mathlib.Core.Path.{_≡_};
-ghost use mathlib.Core.Bool.{true, false, _&&_, _||_, cond};
+ghost use mathlib.Core.Bool.{true, false, _&&_, _||_};
 ghost use mathlib.Core.List.{[], _∷_};
-ghost use Prim.Native.Nat.{ℕ, suc, _-_, _<_};
+ghost use Prim.Native.Nat.{ℕ, _-_, _<_};
 ghost use lib.Dec.{eqb, ltb};
 ghost use Rattle.definitions.specs.Areas.{Words, N, areasOf, numbered, width, wordOf, at, types, expressions};
 ghost use Rattle.definitions.specs.Lists.{all, always, total};

@@ -1,5 +1,6 @@
 -- The laws that callers cite.
 pub mod Decision
 pub mod Numbered
+pub mod Places
 pub mod Packing
 pub mod Laws
