@@ -4,3 +4,4 @@ pub mod Behind
 pub mod Every
 pub mod Laws
 pub mod AtOnce
+pub mod Once

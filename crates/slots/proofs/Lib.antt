@@ -4,3 +4,4 @@ pub mod Numbered
 pub mod Places
 pub mod Packing
 pub mod Laws
+pub mod Once
