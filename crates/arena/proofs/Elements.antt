@@ -1,18 +1,15 @@
 -- The bits of the elements: each lies below the end, no two elements share one, and what `insert` does to each.
 -- Assumes nothing.
 use mathlib.Core.Path.{_≡_, refl, ap, ap₂, sym, subst, _∙_}
-use mathlib.Core.Bool.{Bool, true, false, _||_}
-use mathlib.Core.List.{List}
 use Prim.Native.Nat.{ℕ, _+_, _≤_, _<_}
 use native.Mathlib.Decide.{decLt}
 use native.Mathlib.Omega.{arith}
-use lib.Dec.{T, lit<}
-use borrow.Author.Tests.{lt-ltb}
+use lib.Dec.{lit<}
 use Rattle.definitions.specs.Lists.{always, total}
-use Rattle.definitions.specs.Areas.{Arena, types, constants, overrides, globals, expressions, areaNumber, numbered, Elem, at, same}
-use Rattle.definitions.proofs.Least.{numbered-number, same-eq, same-refl}
+use Rattle.definitions.specs.Areas.{Arena, types, constants, overrides, globals, expressions, areaNumber, numbered, Elem, at}
+use Rattle.definitions.proofs.Least.{numbered-number}
 use Rattle.definitions.proofs.ListLaws.{total-share}
-use Rattle.arena.specs.HandleSet.{bases, records, base, bit, member, room, Inserted}
+use Rattle.arena.specs.HandleSet.{bases, records, base, bit}
 
 -- the handle is below its arena's count
 abbrev pub Below : (Arena → ℕ) → Elem → Type 0
@@ -71,15 +68,3 @@ module _ (n : Arena → ℕ) (small : records n < 4294967296) where
               ap₂ at (sym (numbered-number a) ∙ ap numbered i ∙ numbered-number b) j
         ]
       ]
-
-  -- after `insert` the element is in the set, and every other just when it was
-  pub insert-element : (vs ws : List ℕ) (x y : Elem) → bases n .end ≤ room vs → Below n x → Below n y → Inserted vs (bit (bases n) x) ws
-      → member ws (bit (bases n) y) ≡ same y x || member vs (bit (bases n) y)
-  insert-element vs ws x y fits l m i = go (same y x) refl
-    where
-      go : (b : Bool) → same y x ≡ b → member ws (bit (bases n) y) ≡ b || member vs (bit (bases n) y)
-      go true e =
-          ap (λ (z : Elem). member ws (bit (bases n) z)) (same-eq y x (subst T (sym e) tt))
-          ∙ i .put
-          ∙ lt-ltb (bit (bases n) x) (room vs) (omega (arith, bit-below x l))
-      go false e = i .others (bit (bases n) y) (λ q. subst T (subst (λ (z : Elem). same y z ≡ false) (sym (bit-injective y x m l q)) e) (same-refl y))

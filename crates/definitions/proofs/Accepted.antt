@@ -150,14 +150,18 @@ facts s maps t =
       expression-order = records-all 7 wellOrdered s expressions (c7 .1 .0);
     }
 
--- far fewer records than N, where each area has no more than its limit
-pub size-few : (s : Areas) → ((i : ℕ) → i < 8 → T (leb (recordsOf s i) (getD limits i 0))) → (a : Arena) → size s a < N
+-- no more records than an arena's limit, where each area keeps to its own
+pub size-limit : (s : Areas) → ((i : ℕ) → i < 8 → T (leb (recordsOf s i) (getD limits i 0))) → (a : Arena) → size s a ≤ 4096
 unfolding size width words recordsOf lengthOf widths limits allWords
-size-few s few types = le-trans (suc-le-suc (leb→le _ _ (few 0 (lit< tt)))) (lit≤ tt)
-size-few s few constants = le-trans (suc-le-suc (leb→le _ _ (few 1 (lit< tt)))) (lit≤ tt)
-size-few s few overrides = le-trans (suc-le-suc (leb→le _ _ (few 2 (lit< tt)))) (lit≤ tt)
-size-few s few globals = le-trans (suc-le-suc (leb→le _ _ (few 3 (lit< tt)))) (lit≤ tt)
-size-few s few expressions = le-trans (suc-le-suc (leb→le _ _ (few 4 (lit< tt)))) (lit≤ tt)
+size-limit s few types = leb→le _ _ (few 0 (lit< tt))
+size-limit s few constants = leb→le _ _ (few 1 (lit< tt))
+size-limit s few overrides = leb→le _ _ (few 2 (lit< tt))
+size-limit s few globals = leb→le _ _ (few 3 (lit< tt))
+size-limit s few expressions = leb→le _ _ (few 4 (lit< tt))
+
+-- far fewer than N
+pub size-few : (s : Areas) → ((i : ℕ) → i < 8 → T (leb (recordsOf s i) (getD limits i 0))) → (a : Arena) → size s a < N
+size-few s few a = le-trans (suc-le-suc (size-limit s few a)) (lit≤ tt)
 
 -- the facts, and room in the maps, are all that the check asks
 pub accepts : (s : Areas) (maps : List ℕ) → Accepted s → T (passes (check3 s maps)) → T (passes (check s maps))

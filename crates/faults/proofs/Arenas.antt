@@ -10,7 +10,7 @@ use Rattle.definitions.specs.Areas.{Words, Areas, Arena, types, constants, over
 use Rattle.definitions.specs.References.{span, run}
 use Rattle.slots.specs.Codes.{wordsFrom, spanIn, runIn}
 use Rattle.slots.proofs.Laws.{span-in, run-in}
-use Rattle.rules.proofs.Places.{place-words}
+use Rattle.slots.proofs.Places.{place-words}
 use Rattle.faults.specs.Checking.{Measured}
 
 -- an area past 3 is read as the expressions

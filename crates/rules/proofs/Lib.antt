@@ -2,6 +2,6 @@
 pub mod Arms
 pub mod Behind
 pub mod Every
-pub mod Places
 pub mod Laws
 pub mod AtOnce
+pub mod Once

@@ -79,6 +79,10 @@ fitBy c o l overrides h =
 fitBy c o l globals h = false
 fitBy c o l expressions h = ltb h (l .expressions)
 
+-- a type and an init within the limits; unless it has to be there the init may be N
+abbrev pub typedBy : Limits → Bool → ℕ → ℕ → Bool
+typedBy l present t e = ltb t (l .types) && (cond present false (eqb e N) || ltb e (l .expressions))
+
 -- a word that passes is good under each of the numbers; the only kinds with free slots before the tag are those of number 5
 unfoldable pub goodBy : Words → Words → Limits → Slot → ℕ → Bool
 goodBy c o l unused w = eqb w N

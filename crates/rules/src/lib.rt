@@ -1,8 +1,8 @@
 // One record under numbers 4, 6 and 7: what is asked of its words and of its run.
 ghost use mathlib.Core.Path.{_≡_};
-ghost use mathlib.Core.Bool.{true, false, _&&_, _||_, cond};
+ghost use mathlib.Core.Bool.{true, false, _&&_, _||_};
 ghost use mathlib.Core.List.{[], _∷_};
-ghost use Prim.Native.Nat.{ℕ, suc, _-_, _<_};
+ghost use Prim.Native.Nat.{ℕ, _-_, _<_};
 ghost use lib.Dec.{eqb, ltb};
 ghost use Rattle.definitions.specs.Areas.{Words, N, areasOf, numbered, width, wordOf, at, types, expressions};
 ghost use Rattle.definitions.specs.Lists.{all, always, total};
@@ -13,7 +13,7 @@ ghost use Rattle.definitions.specs.Refusals.{every};
 ghost use Rattle.arena.specs.Elements.{elementOf};
 ghost use Rattle.slots.specs.Codes.{decoded, unpacked, wordsFrom, arenaOf, slotOf, spanIn};
 ghost use Rattle.slots.specs.Part.{part};
-ghost use Rattle.rules.specs.Rules.{sizeIn, shapedBy, heldBy, within, asked, empty, fitBy, goodBy, leading};
+ghost use Rattle.rules.specs.Rules.{sizeIn, shapedBy, heldBy, within, asked, empty, fitBy, typedBy, goodBy, leading};
 use arena::Constant;
 use arena::ConstantHandle;
 use arena::Element;
@@ -26,6 +26,7 @@ use arena::Type;
 use arena::TypeHandle;
 use slots::Arena;
 use slots::Slot;
+use slots::code;
 
 // How many records each arena has.
 pub struct Sizes {
@@ -225,7 +226,7 @@ fn slots_keep(
         ) {
             return false;
         }
-        rest = rest / 16;
+        rest = rest / code::BASE;
         k += 1;
     }
     true
@@ -292,18 +293,18 @@ fn slot_good(l: Limits, code: u64, w: u32, constants: &[u32], overrides: &[u32])
     ensures { λ r. ⌜ r ≡ goodBy (now (constants .entry)) (now (overrides .entry)) l (decoded code) w ⌝ }
 {
     match code {
-        1 => false,
-        2 => w < l.types,
-        3 => constant_fits(l, ConstantHandle(w), constants),
-        4 => override_fits(l, OverrideHandle(w), overrides),
-        5 => w < l.expressions,
-        6 => w == N || w < l.expressions,
-        7 => w as usize == l.run.sum && w as usize + l.run.span as usize <= l.run.room,
-        8 => true,
-        9 => w < 2,
-        10 => w < 4,
-        11 => w < 5,
-        12 => w < 34,
+        code::FREE => false,
+        code::TYPE => w < l.types,
+        code::CONSTANT => constant_fits(l, ConstantHandle(w), constants),
+        code::OVERRIDE => override_fits(l, OverrideHandle(w), overrides),
+        code::EXPRESSION => w < l.expressions,
+        code::MAYBE => w == N || w < l.expressions,
+        code::START => w as usize == l.run.sum && w as usize + l.run.span as usize <= l.run.room,
+        code::COUNT => true,
+        code::BELOW_2 => w < 2,
+        code::BELOW_4 => w < 4,
+        code::BELOW_5 => w < 5,
+        code::BELOW_34 => w < 34,
         _ => w == N,
     }
 }
@@ -340,38 +341,33 @@ fn slots_good(
         if rest == 0 {
             return blank(ws, at, k, n);
         }
-        if !slot_good(l, rest % 16, slots::word(ws, at, k), constants, overrides) {
+        if !slot_good(
+            l,
+            rest % code::BASE,
+            slots::word(ws, at, k),
+            constants,
+            overrides,
+        ) {
             return false;
         }
-        rest = rest / 16;
+        rest = rest / code::BASE;
         k += 1;
     }
     true
 }
 
-// Are word k, a type, and the word after it, an init, good ? Unless it must be there the init may be N.
-fn typed_good(l: Limits, ws: &[u32], at: usize, k: usize, must: bool) -> bool
-    requires { ⌜ k < 2 ⌝ }
-    ensures { λ r. ⌜ r ≡ (ltb (wordsFrom (now (ws .entry)) at k) (l .types) && (cond must false (eqb (wordsFrom (now (ws .entry)) at (suc k)) N) || ltb (wordsFrom (now (ws .entry)) at (suc k)) (l .expressions))) ⌝ }
+// Are a type and an init good, at their places in the record ? Unless it must be there the init may be N.
+fn typed_good(l: Limits, ws: &[u32], at: usize, ty: usize, init: usize, must: bool) -> bool
+    ensures { λ r. ⌜ r ≡ typedBy l must (wordsFrom (now (ws .entry)) at ty) (wordsFrom (now (ws .entry)) at init) ⌝ }
 {
-    if l.types <= slots::word(ws, at, k) {
+    if l.types <= slots::word(ws, at, ty) {
         return false;
     }
-    let init = slots::word(ws, at, k + 1);
-    if init == N {
+    let e = slots::word(ws, at, init);
+    if e == N {
         return !must;
     }
-    init < l.expressions
-}
-
-// Is the first word a flag, and are the type and the init after it good ?
-fn named_good(l: Limits, ws: &[u32], at: usize, must: bool) -> bool
-    ensures { λ r. ⌜ r ≡ (ltb (wordsFrom (now (ws .entry)) at 0) 2 && (ltb (wordsFrom (now (ws .entry)) at 1) (l .types) && (cond must false (eqb (wordsFrom (now (ws .entry)) at 2) N) || ltb (wordsFrom (now (ws .entry)) at 2) (l .expressions)))) ⌝ }
-{
-    if 2 <= slots::word(ws, at, 0) {
-        return false;
-    }
-    typed_good(l, ws, at, 1, must)
+    e < l.expressions
 }
 
 // Are all words of the record that starts at a place good, but its tag ?
@@ -386,9 +382,15 @@ pub fn record_good(
     ensures { λ r. ⌜ r ≡ every (goodBy (now (constants .entry)) (now (overrides .entry)) l) (wordsFrom (now (ws .entry)) at) 0 (body (numbered area) (wordsFrom (now (ws .entry)) at)) ⌝ }
 {
     match area {
-        1 => named_good(l, ws, at, true),
-        2 => named_good(l, ws, at, false),
-        3 => typed_good(l, ws, at, 0, false),
+        1 => {
+            slots::word(ws, at, Constant::NAMED) < 2
+                && typed_good(l, ws, at, Constant::TYPE, Constant::INIT, true)
+        }
+        2 => {
+            slots::word(ws, at, Override::NAMED) < 2
+                && typed_good(l, ws, at, Override::TYPE, Override::INIT, false)
+        }
+        3 => typed_good(l, ws, at, Global::TYPE, Global::INIT, false),
         _ => slots_good(
             l,
             ws,

@@ -3,7 +3,7 @@
 use mathlib.Core.Path.{_≡_, refl, sym, ap, ap₂, _∙_}
 use mathlib.Core.Bool.{Bool, true, _&&_}
 use mathlib.Core.List.{List, [], _∷_, _++_}
-use Prim.Native.Nat.{ℕ, zero, suc, _+_, _/_, _%_, _≤_}
+use Prim.Native.Nat.{ℕ, zero, suc, _+_, _≤_}
 use native.Mathlib.Nat.{le-of-suc-le-suc, not-suc-le-zero}
 use native.Mathlib.Omega.{arith}
 use lib.ListN.{length, take, drop, length-append}
@@ -13,8 +13,9 @@ use Rattle.definitions.specs.References.{hasRun, span, run, namedBy, namedFrom,
 use Rattle.definitions.specs.Order.{behind, withBehind}
 use Rattle.definitions.specs.Refusals.{every}
 use Rattle.definitions.proofs.Reading.{length-slots}
-use Rattle.slots.specs.Codes.{unpacked, decoded, codes, spanIn, runIn}
+use Rattle.slots.specs.Codes.{packed, unpacked, decoded, codes, spanIn, runIn}
 use Rattle.slots.specs.Part.{part}
+use Rattle.slots.proofs.Packing.{packed-body}
 
 -- a body has one word less than the record, its tag
 pub body-length : (a : Arena) (f : ℕ → ℕ) → length (body a f) + 1 ≡ width a
@@ -32,40 +33,19 @@ body-le a f = go a (body-length a f)
     go globals e = omega arith
     go expressions e = omega arith
 
-take-unpacked : (v n m : ℕ) → n ≤ m → take n (unpacked v m) ≡ unpacked v n
-unfolding unpacked
-take-unpacked v zero m h = refl
-take-unpacked v (suc n) zero h = absurd (not-suc-le-zero h)
-take-unpacked v (suc n) (suc m) h = ap (λ r. decoded (v % 16) ∷ r) (take-unpacked (v / 16) n m (le-of-suc-le-suc h))
-
-take-fill : (l : List Slot) (n m : ℕ) → n ≤ m → take n (fill m l) ≡ fill n l
-unfolding fill
-take-fill l zero m h = refl
-take-fill l (suc n) zero h = absurd (not-suc-le-zero h)
-take-fill [] (suc n) (suc m) h = ap (λ r. unused ∷ r) (take-fill [] n m (le-of-suc-le-suc h))
-take-fill (x ∷ l) (suc n) (suc m) h = ap (λ r. x ∷ r) (take-fill l n m (le-of-suc-le-suc h))
-
 fill-exact : (l : List Slot) → fill (length l) l ≡ l
 unfolding fill
 fill-exact [] = refl
 fill-exact (x ∷ l) = ap (λ r. x ∷ r) (fill-exact l)
 
 -- as many slots as the body has words unpack to the body
-pub body-shape : (a : Arena) (f : ℕ → ℕ) (v n : ℕ) → unpacked v 10 ≡ fill 10 (body a f) → n + 1 ≡ width a → unpacked v n ≡ body a f
+pub body-shape : (a : Arena) (f : ℕ → ℕ) (v n : ℕ) → v ≡ packed (body a f) → n + 1 ≡ width a → unpacked v n ≡ body a f
 body-shape a f v n e w =
     let q : n ≡ length (body a f) = omega (arith, body-length a f) in
-    sym (take-unpacked v n 10 (rw q (body-le a f))) ∙ ap (take n) e ∙ take-fill (body a f) n 10 (rw q (body-le a f)) ∙ rw q (fill-exact (body a f))
+    packed-body a f n e (omega arith) ∙ rw q (fill-exact (body a f))
 
 module _ (p : Slot → ℕ → Bool) (f : ℕ → ℕ) where
-  -- a test that every unused slot passes is asked of the named ones alone
-  every-fill : ((w : ℕ) → p unused w ≡ true) → (n : ℕ) (l : List Slot) (k : ℕ) → length l ≤ n → every p f k (fill n l) ≡ every p f k l
-  unfolding fill every
-  every-fill u zero [] k h = refl
-  every-fill u zero (x ∷ l) k h = absurd (not-suc-le-zero h)
-  every-fill u (suc n) [] k h = rw (u (f k)) (every-fill u n [] (suc k) (omega arith))
-  every-fill u (suc n) (x ∷ l) k h = ap (λ b. p x (f k) && b) (every-fill u n l (suc k) (le-of-suc-le-suc h))
-
-  -- and of no tag, where every free slot passes
+  -- a test that every free slot passes is asked of no tag
   pub every-tag : ((w : ℕ) → p free w ≡ true) → (l : List Slot) (k : ℕ) → every p f k (l ++ tag) ≡ every p f k l
   unfolding every
   every-tag t [] k = rw (t (f k))
@@ -77,14 +57,8 @@ module _ (p : Slot → ℕ → Bool) (f : ℕ → ℕ) where
   every-none u zero k = refl
   every-none u (suc n) k = rw (u (f k)) (every-none u n (suc k))
 
-  -- so it is asked of the shape
-  pub every-shape : ((w : ℕ) → p unused w ≡ true) → ((w : ℕ) → p free w ≡ true) → (a : Arena) (v : ℕ) → unpacked v 10 ≡ fill 10 (body a f)
-      → every p f 0 (slots a f) ≡ every p f 0 (unpacked v 10)
-  unfolding slots
-  every-shape u t a v e = every-tag t (body a f) 0 ∙ sym (every-fill u 10 (body a f) 0 (body-le a f)) ∙ ap (every p f 0) (sym e)
-
-  -- and where an unused slot may fail, of as many slots as the body has words
-  pub every-body : ((w : ℕ) → p free w ≡ true) → (a : Arena) (v n : ℕ) → unpacked v 10 ≡ fill 10 (body a f) → n + 1 ≡ width a
+  -- so it is asked of the shape, of as many slots as the body has words
+  pub every-body : ((w : ℕ) → p free w ≡ true) → (a : Arena) (v n : ℕ) → v ≡ packed (body a f) → n + 1 ≡ width a
       → every p f 0 (slots a f) ≡ every p f 0 (unpacked v n)
   unfolding slots
   every-body t a v n e w = every-tag t (body a f) 0 ∙ ap (every p f 0) (sym (body-shape a f v n e w))
@@ -109,9 +83,9 @@ module _ (f : ℕ → ℕ) where
   named-none (suc n) k = named-none n (suc k)
 
   -- what a record's slots name, its shape names
-  pub named-shape : (a : Arena) (v : ℕ) → unpacked v 10 ≡ fill 10 (body a f) → namedFrom f 0 (slots a f) ≡ namedFrom f 0 (unpacked v 10)
+  pub named-shape : (a : Arena) (v : ℕ) → v ≡ packed (body a f) → namedFrom f 0 (slots a f) ≡ namedFrom f 0 (unpacked v 10)
   unfolding slots
-  named-shape a v e = named-tag (body a f) 0 ∙ sym (named-fill 10 (body a f) 0 (body-le a f)) ∙ ap (namedFrom f 0) (sym e)
+  named-shape a v e = named-tag (body a f) 0 ∙ sym (named-fill 10 (body a f) 0 (body-le a f)) ∙ ap (namedFrom f 0) (sym (packed-body a f 10 e (body-le a f)))
 
 -- the count of a record's run, and the run, in the module
 pub span-in : (s : Areas) (a : Arena) (h : ℕ) → span s a h ≡ spanIn a (word s a h)

@@ -2,7 +2,7 @@
 -- Assumes nothing.
 use mathlib.Core.Bool.{cond}
 use mathlib.Core.List.{List, [], _∷_}
-use Prim.Native.Nat.{ℕ, zero, suc, _+_, _/_, _%_}
+use Prim.Native.Nat.{ℕ, zero, suc, _+_, _*_, _/_, _%_}
 use lib.Dec.{eqb}
 use lib.ListN.{getD, take, drop}
 use Rattle.definitions.specs.Areas.{Words, types, constants, overrides, globals, expressions}
@@ -34,6 +34,29 @@ codes =
 -- what a code stands for
 unfoldable pub decoded : ℕ → Slot
 decoded c = getD codes c unused
+
+-- the code of a slot; 13 for one that no record has
+unfoldable pub codeOf : Slot → ℕ
+codeOf unused = 0
+codeOf free = 1
+codeOf (below n) = cond (eqb n 2) 9 (cond (eqb n 4) 10 (cond (eqb n 5) 11 (cond (eqb n 34) 12 13)))
+codeOf (must types) = 2
+codeOf (must constants) = 3
+codeOf (must overrides) = 4
+codeOf (must globals) = 13
+codeOf (must expressions) = 5
+codeOf (may types) = 13
+codeOf (may constants) = 13
+codeOf (may overrides) = 13
+codeOf (may globals) = 13
+codeOf (may expressions) = 6
+codeOf start = 7
+codeOf count = 8
+
+-- the shape of some slots
+unfoldable pub packed : List Slot → ℕ
+packed [] = 0
+packed (l ∷ ls) = codeOf l + 16 * packed ls
 
 -- the first n slots of a shape
 unfoldable pub unpacked : ℕ → ℕ → List Slot

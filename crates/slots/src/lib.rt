@@ -1,10 +1,13 @@
 // What each word of a record is: one decision over the kinds, and the shape that it gives.
+pub mod code;
+mod shapes;
+
 ghost use mathlib.Core.Path.{_≡_};
 ghost use Prim.Native.Nat.{_+_, _%_, min};
-ghost use lib.ListN.{getD, take, drop};
+ghost use lib.ListN.{getD};
 ghost use Rattle.definitions.specs.Areas.{numbered, at, width};
-ghost use Rattle.definitions.specs.Slots.{formOf, fill, body, typeBody, exprBody};
-ghost use Rattle.slots.specs.Codes.{decoded, unpacked, arenaOf, slotOf, wordsFrom, spanIn, runIn};
+ghost use Rattle.definitions.specs.Slots.{formOf, body};
+ghost use Rattle.slots.specs.Codes.{decoded, packed, arenaOf, slotOf, wordsFrom, spanIn, runIn};
 ghost use Rattle.arena.specs.Elements.{elementOf};
 use arena::Constant;
 use arena::ConstantHandle;
@@ -17,6 +20,7 @@ use arena::Override;
 use arena::OverrideHandle;
 use arena::Type;
 use arena::TypeHandle;
+pub use shapes::expression_shape;
 
 // The five arenas.
 pub enum Arena {
@@ -67,103 +71,47 @@ pub fn word(ws: &[u32], at: usize, k: usize) -> u32
 pub fn first(shape: u64) -> Slot
     ensures { λ r. ⌜ slotOf r ≡ decoded (shape % 16) ⌝ }
 {
-    let code = shape % 16;
-    match code {
-        1 => Slot::Free,
-        2 => Slot::Must(Arena::Types),
-        3 => Slot::Must(Arena::Constants),
-        4 => Slot::Must(Arena::Overrides),
-        5 => Slot::Must(Arena::Expressions),
-        6 => Slot::May(Arena::Expressions),
-        7 => Slot::Start,
-        8 => Slot::Count,
-        9 => Slot::Below(2),
-        10 => Slot::Below(4),
-        11 => Slot::Below(5),
-        12 => Slot::Below(34),
+    match shape % code::BASE {
+        code::FREE => Slot::Free,
+        code::TYPE => Slot::Must(Arena::Types),
+        code::CONSTANT => Slot::Must(Arena::Constants),
+        code::OVERRIDE => Slot::Must(Arena::Overrides),
+        code::EXPRESSION => Slot::Must(Arena::Expressions),
+        code::MAYBE => Slot::May(Arena::Expressions),
+        code::START => Slot::Start,
+        code::COUNT => Slot::Count,
+        code::BELOW_2 => Slot::Below(2),
+        code::BELOW_4 => Slot::Below(4),
+        code::BELOW_5 => Slot::Below(5),
+        code::BELOW_34 => Slot::Below(34),
         _ => Slot::Unused,
     }
 }
 
-// The slots of an expression's body, by its kind and its level or query form.
-pub fn expression_shape(kind: u32, form: u32) -> u64
-    ensures { λ r. ⌜ unpacked r 10 ≡ fill 10 (exprBody kind form) ⌝ }
-{
-    match kind {
-        5 => 0x3C,
-        6 => 0x4C,
-        7 | 28..=30 => 0x2C,
-        8 => 0x872C,
-        9 | 20 | 32 => 0x55C,
-        10..=12 | 14 | 18 | 19 | 22 | 23 | 25 | 26 | 31 => 0x5C,
-        13 | 27 => 0x111111111C,
-        15 => sample_shape(form),
-        16 => 0x66655C,
-        17 => query_shape(form),
-        21 | 33 => 0x555C,
-        24 => 0x6665C,
-        0..=4 => 0xC,
-        _ => 0xC,
-    }
-}
-
-// `ImageSample`: x and y by the level form.
-fn sample_shape(form: u32) -> u64
-    ensures { λ r. ⌜ unpacked r 10 ≡ fill 10 (exprBody 15 form) ⌝ }
-{
-    match form {
-        2 | 3 => 0x605B66555C,
-        4 => 0x655B66555C,
-        _ => 0x600B66555C,
-    }
-}
-
-// `ImageQuery`: the level by the query form.
-fn query_shape(form: u32) -> u64
-    ensures { λ r. ⌜ unpacked r 10 ≡ fill 10 (exprBody 17 form) ⌝ }
-{
-    match form {
-        0 => 0x6A5C,
-        _ => 0xA5C,
-    }
-}
-
-// The slots of a type's body, by its kind.
-fn type_shape(kind: u32) -> u64
-    ensures { λ r. ⌜ unpacked r 10 ≡ fill 10 (typeBody kind) ⌝ }
-{
-    match kind {
-        1 => 0x2AA,
-        2 => 0x42AA,
-        3 => 0x87AA,
-        _ => 0xAA,
-    }
-}
-
-// The form of an expression: word 6 of an `ImageSample`, word 2 of an `ImageQuery`.
+// The form of an expression, where it is an `ImageSample` or an `ImageQuery`.
 fn form(ws: &[u32], at: usize) -> u32
     ensures { λ r. ⌜ r ≡ formOf (wordsFrom (now (ws .entry)) at) ⌝ }
 {
-    let kind = word(ws, at, 0);
+    let kind = word(ws, at, Expression::KIND);
     if kind == 15 {
-        return word(ws, at, 6);
+        return word(ws, at, shapes::LEVEL_FORM);
     }
     if kind == 17 {
-        return word(ws, at, 2);
+        return word(ws, at, shapes::QUERY_FORM);
     }
     0
 }
 
 // The slots of the body of the record that starts at a place, by its area.
 pub fn shape(area: u32, ws: &[u32], at: usize) -> u64
-    ensures { λ r. ⌜ unpacked r 10 ≡ fill 10 (body (numbered area) (wordsFrom (now (ws .entry)) at)) ⌝ }
+    ensures { λ r. ⌜ r ≡ packed (body (numbered area) (wordsFrom (now (ws .entry)) at)) ⌝ }
 {
     match area {
-        0 => type_shape(word(ws, at, 0)),
-        1 => 0x529,
-        2 => 0x629,
-        3 => 0x62,
-        _ => expression_shape(word(ws, at, 0), form(ws, at)),
+        0 => shapes::type_shape(word(ws, at, Type::KIND)),
+        1 => shapes::CONSTANT,
+        2 => shapes::OVERRIDE,
+        3 => shapes::GLOBAL,
+        _ => expression_shape(word(ws, at, Expression::KIND), form(ws, at)),
     }
 }
 
@@ -171,17 +119,16 @@ pub fn shape(area: u32, ws: &[u32], at: usize) -> u64
 pub fn span(area: u32, ws: &[u32], at: usize) -> u32
     ensures { λ r. ⌜ r ≡ spanIn (numbered area) (wordsFrom (now (ws .entry)) at) ⌝ }
 {
-    let kind = word(ws, at, 0);
     match area {
         0 => {
-            if kind == 3 {
-                return word(ws, at, 3);
+            if word(ws, at, Type::KIND) == 3 {
+                return word(ws, at, shapes::RUN_COUNT);
             }
         }
         1..=3 => {}
         _ => {
-            if kind == 8 {
-                return word(ws, at, 3);
+            if word(ws, at, Expression::KIND) == 8 {
+                return word(ws, at, shapes::RUN_COUNT);
             }
         }
     }
@@ -202,9 +149,9 @@ fn least(a: usize, b: usize) -> usize
 pub fn run<'a>(area: u32, ws: &[u32], at: usize, pool: &'a [u32]) -> &'a [u32]
     ensures { λ r. ⌜ now r ≡ runIn (numbered area) (wordsFrom (now (ws .entry)) at) (now (pool .entry)) ⌝ }
 {
-    let start = least(word(ws, at, 2) as usize, pool.len());
+    let start = least(word(ws, at, shapes::RUN_START) as usize, pool.len());
     let end = least(
-        word(ws, at, 2) as usize + span(area, ws, at) as usize,
+        word(ws, at, shapes::RUN_START) as usize + span(area, ws, at) as usize,
         pool.len(),
     );
     &pool[start..end]

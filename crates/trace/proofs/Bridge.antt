@@ -2,21 +2,19 @@
 -- Assumes nothing.
 use mathlib.Core.Path.{_≡_, refl, sym, ap, ap₂, subst, _∙_}
 use mathlib.Core.Bool.{Bool, true, false, _&&_, _||_, cond, or-assoc, or-comm, and-true}
-use mathlib.Core.Logic.{⊎-elim}
 use mathlib.Core.List.{List, [], _∷_, _++_, map, append-nil}
 use Prim.Native.Nat.{ℕ, _≤_, _<_}
 use native.Mathlib.Nat.{le-trans}
 use native.Mathlib.Omega.{arith}
-use lib.Dec.{T, eqb, leb→le, lit<}
+use lib.Dec.{T, eqb}
 use borrow.Author.Tests.{lt-ltb, eq-eqb, ne-eqb}
-use Rattle.definitions.specs.Areas.{Areas, Arena, Elem, at, same, types, constants, overrides, globals, expressions, size, width, words, recordsOf, lengthOf, widths, limits, allWords}
+use Rattle.definitions.specs.Areas.{Areas, Elem, at, same, types, constants, overrides, globals, expressions, size}
 use Rattle.definitions.specs.References.{references}
 use Rattle.definitions.specs.Roots.{those, commonRoots, moreRoots, roots}
 use Rattle.definitions.specs.Order.{order, withBehind}
 use Rattle.definitions.specs.Sweep.{has, rootMarks, visit, sweep, kept}
-use Rattle.definitions.specs.Refusals.{inside}
-use Rattle.definitions.proofs.Least.{same-eq, same-refl, here, there, cons-cases, none-in, Within, Closed, reached-within, sweep-old}
-use Rattle.definitions.proofs.Accepted.{Sound}
+use Rattle.definitions.proofs.Least.{same-eq, same-refl, here, there, Within, Closed, reached-within, sweep-old}
+use Rattle.definitions.proofs.Accepted.{Sound, size-limit}
 use Rattle.definitions.proofs.Kept.{Inside, inside-lt, lt-inside, inside-closed, kept-inside}
 use Rattle.definitions.proofs.Tandem.{Among, visits-among}
 use Rattle.arena.specs.HandleSet.{bases, records, bit, member, room}
@@ -96,14 +94,6 @@ marks-added s xs m {before} small fits w k p = record {
   marked = λ x i. p .holds (bit (bases (size s)) x) ∙ added-stands s small (room before) fits xs m (member before) w (k .marked) x i;
 }
 
-size-few : (s : Areas) → Sound s → (a : Arena) → size s a ≤ 4096
-unfolding size width words recordsOf lengthOf widths limits allWords
-size-few s c types = leb→le _ _ (c .few 0 (lit< tt))
-size-few s c constants = leb→le _ _ (c .few 1 (lit< tt))
-size-few s c overrides = leb→le _ _ (c .few 2 (lit< tt))
-size-few s c globals = leb→le _ _ (c .few 3 (lit< tt))
-size-few s c expressions = leb→le _ _ (c .few 4 (lit< tt))
-
 order-inside : (s : Areas) → Within (order s) (Inside s)
 unfolding order
 order-inside s x h = go x (visits-among s (size s types) (size s expressions) x h)
@@ -119,7 +109,8 @@ module _ (s : Areas) (c : Sound s) where
   -- a sound module has room for its bits in 320 words
   pub records-few : records (size s) ≤ 20480
   records-few =
-      omega (arith, size-few s c types, size-few s c constants, size-few s c overrides, size-few s c globals, size-few s c expressions)
+      let few = size-limit s (c .few) in
+      omega (arith, few types, few constants, few overrides, few globals, few expressions)
 
   -- some visits
   pub sweep-marks : (xs m : List Elem) {before after : List ℕ} → bases (size s) .end ≤ room before → Within xs (Inside s) → Marks s before m
@@ -129,12 +120,6 @@ module _ (s : Areas) (c : Sound s) where
         p .holds (bit (bases (size s)) x)
         ∙ sweep-stands s (omega (arith, records-few)) (room before) fits (inside-closed s c) xs m (member before) w (k .marked) x i;
   }
-
-  -- one visit
-  pub visit-marks : (x : Elem) (m : List Elem) {before after : List ℕ} → bases (size s) .end ≤ room before → T (inside s x) → Marks s before m
-      → Holds before (visitBits s (bases (size s)) (room before) (member before) x) after → Marks s after (visit s m x)
-  unfolding sweepBits sweep
-  visit-marks x m fits i = sweep-marks (x ∷ []) m fits (λ y h. ⊎-elim (λ e. subst (Inside s) (sym e) i) (λ n. absurd (none-in y n)) (cons-cases y x [] h))
 
   module _ (keep : Bool) {before after : List ℕ} (fits : bases (size s) .end ≤ room before) where
     -- the roots, put into emptied words

@@ -5,12 +5,12 @@ use mathlib.Core.Bool.{true, false, cond}
 use mathlib.Core.List.{List, [], _∷_, _++_, map}
 use Prim.Native.Nat.{ℕ}
 use Rattle.definitions.specs.Areas.{Words, Areas, Arena, Elem, at, types, constants, overrides, globals, expressions, words, wordOf, word, pool}
-use Rattle.definitions.specs.Slots.{fill, body, slots, layout}
+use Rattle.definitions.specs.Slots.{body, slots, layout}
 use Rattle.definitions.specs.References.{namedFrom, references}
 use Rattle.definitions.specs.Order.{behind, withBehind}
 use Rattle.arena.specs.HandleSet.{bit, member, room}
 use Rattle.arena.specs.declared.handle_set.Bases.{Bases}
-use Rattle.slots.specs.Codes.{unpacked, spanIn, runIn}
+use Rattle.slots.specs.Codes.{packed, unpacked, spanIn, runIn}
 use Rattle.slots.specs.Part.{part}
 use Rattle.slots.proofs.Laws.{named-shape, run-in}
 use Rattle.trace.specs.Bits.{added, bitsOf, Holds, Put, Marked, visitBits}
@@ -42,7 +42,7 @@ module _ (s : Areas) where
 
 module _ (s : Areas) (b : Bases) where
   -- the slots and then the run
-  pub marked-named : (a : Arena) (f : ℕ → ℕ) (p : Words) (shape : ℕ) {run v w u : List ℕ} → unpacked shape 10 ≡ fill 10 (body a f) → run ≡ runIn a f p
+  pub marked-named : (a : Arena) (f : ℕ → ℕ) (p : Words) (shape : ℕ) {run v w u : List ℕ} → shape ≡ packed (body a f) → run ≡ runIn a f p
       → Marked s b (namedFrom f 0 (unpacked shape 10)) v w → Put (map (bit b) (map (at a) run)) w u → Marked s b (named a f p) v u
   unfolding bitsOf
   marked-named a f p shape {run} {v} {w} {u} e r m q =

@@ -25,6 +25,7 @@ use arena::handle_set;
 use arena::handle_set::Bases;
 pub use roots::Counts;
 pub use roots::mark_roots;
+use slots::code;
 
 // Marks a type and, unless it is N, an init.
 fn mark_both(marks: &mut [u64], b: Bases, ty: TypeHandle, init: ExpressionHandle)
@@ -91,11 +92,11 @@ fn trace_slot(marks: &mut [u64], b: Bases, code: u64, w: u32, constants: &[u32],
     ensures { λ _. ⌜ ((g : Words) → Marked (part (now (constants .entry)) (now (overrides .entry)) g) b (namedBy (decoded code) w) (now (marks .entry)) (now (marks .exit))) ⌝ }
 {
     match code {
-        2 => handle_set::insert(marks, b, Element::Type(TypeHandle(w))),
-        3 => mark_constant(marks, b, ConstantHandle(w), constants),
-        4 => mark_override(marks, b, OverrideHandle(w), overrides),
-        5 => handle_set::insert(marks, b, Element::Expression(ExpressionHandle(w))),
-        6 => {
+        code::TYPE => handle_set::insert(marks, b, Element::Type(TypeHandle(w))),
+        code::CONSTANT => mark_constant(marks, b, ConstantHandle(w), constants),
+        code::OVERRIDE => mark_override(marks, b, OverrideHandle(w), overrides),
+        code::EXPRESSION => handle_set::insert(marks, b, Element::Expression(ExpressionHandle(w))),
+        code::MAYBE => {
             if w != N {
                 handle_set::insert(marks, b, Element::Expression(ExpressionHandle(w)));
             }
@@ -119,16 +120,16 @@ fn trace_slots(
 {
     let mut rest = shape;
     let mut k = 0;
-    while k < 10 && rest != 0 {
+    while k < code::WORDS && rest != 0 {
         trace_slot(
             marks,
             b,
-            rest % 16,
+            rest % code::BASE,
             slots::word(ws, at, k),
             constants,
             overrides,
         );
-        rest = rest / 16;
+        rest = rest / code::BASE;
         k += 1;
     }
 }

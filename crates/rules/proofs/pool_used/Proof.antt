@@ -13,7 +13,7 @@ use Rattle.definitions.specs.Lists.{always, total}
 use Rattle.definitions.specs.Areas.{Words, numbered, width, wordOf}
 use Rattle.definitions.proofs.ListLaws.{total-step, total-mono}
 use Rattle.slots.specs.Codes.{wordsFrom, spanIn}
-use Rattle.rules.proofs.Places.{place-fits, place-words}
+use Rattle.slots.proofs.Places.{place-fits, place-words}
 use Rattle.rules.proofs.pool_used.Statement.{statement}
 use Rattle.rules.proofs.pool_used.Tie as tie
 

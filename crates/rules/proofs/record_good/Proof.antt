@@ -1,12 +1,13 @@
 -- `rules::record_good` meets its contract: a constant, override or global has one shape; another body's slots are those of its shape.
 -- Assumes nothing.
 use mathlib.Core.Path.{_≡_, sym, ap, _∙_}
-use mathlib.Core.Bool.{Bool, _&&_, _||_, and-true}
+use mathlib.Core.Bool.{Bool, true, false, _&&_, _||_, and-true}
 use mathlib.Core.List.{[], _∷_}
-use Prim.Native.Nat.{ℕ}
+use Prim.Native.Nat.{ℕ, _≤_, _<_}
 use native.Mathlib.Omega.{arith}
 use lib.Dec.{eqb, ltb}
 use borrow.Author.Needs.{needs}
+use borrow.Author.Tests.{lt-ltb, le-ltb}
 use Rattle.definitions.specs.Areas.{Words, N, numbered}
 use Rattle.definitions.specs.Slots.{body}
 use Rattle.definitions.specs.Refusals.{every}
@@ -15,7 +16,7 @@ use Rattle.slots.specs.Codes.{wordsFrom}
 use Rattle.slots.proofs.Decision.{at-keys}
 use Rattle.slots.proofs.Laws.{body-shape}
 use Rattle.rules.specs.declared.Limits.{Limits}
-use Rattle.rules.specs.Rules.{fitBy, goodBy}
+use Rattle.rules.specs.Rules.{fitBy, typedBy, goodBy}
 use Rattle.rules.proofs.record_good.Statement.{statement}
 use Rattle.rules.proofs.record_good.Tie as tie
 
@@ -28,27 +29,48 @@ opened = 0
 abbrev Right : Words → Words → Limits → (ℕ → ℕ) → Bool → ℕ → Type 0
 Right c o l f r area = r ≡ every (goodBy c o l) f 0 (body (numbered area) f)
 
-module _ (c o : Words) (l : Limits) (f : ℕ → ℕ) {r : Bool} where
-  of-constant : r ≡ (ltb (f 0) 2 && (ltb (f 1) (l .types) && ltb (f 2) (l .expressions))) → Right c o l f r 1
+module _ (c o : Words) (l : Limits) (f : ℕ → ℕ) {w : ℕ} (word : w ≡ f 0) where
+  -- the flag is none
+  not-flag : (rest : Bool) → 2 ≤ w → ltb w 2 ≡ ltb (f 0) 2 && rest
+  not-flag rest h = rw (← word, le-ltb w 2 h)
+
+  flag : {r rest : Bool} → w < 2 → r ≡ rest → r ≡ ltb (f 0) 2 && rest
+  flag h e = rw (← word, lt-ltb w 2 h) e
+
+  no-constant : 2 ≤ w → Right c o l f (ltb w 2) 1
   unfolding opened
-  of-constant e = e ∙ ap (λ x. ltb (f 0) 2 && (ltb (f 1) (l .types) && x)) (sym (and-true (ltb (f 2) (l .expressions))))
+  no-constant = not-flag _
 
-  of-override : r ≡ (ltb (f 0) 2 && (ltb (f 1) (l .types) && (eqb (f 2) N || ltb (f 2) (l .expressions)))) → Right c o l f r 2
+  of-constant : {r : Bool} → w < 2 → r ≡ typedBy l true (f 1) (f 2) → Right c o l f r 1
   unfolding opened
-  of-override e = e ∙ ap (λ x. ltb (f 0) 2 && (ltb (f 1) (l .types) && x)) (sym (and-true (eqb (f 2) N || ltb (f 2) (l .expressions))))
+  of-constant h e = flag h (e ∙ ap (λ x. ltb (f 1) (l .types) && x) (sym (and-true (ltb (f 2) (l .expressions)))))
 
-  of-global : r ≡ (ltb (f 0) (l .types) && (eqb (f 1) N || ltb (f 1) (l .expressions))) → Right c o l f r 3
+  no-override : 2 ≤ w → Right c o l f (ltb w 2) 2
   unfolding opened
-  of-global e = e ∙ ap (λ x. ltb (f 0) (l .types) && x) (sym (and-true (eqb (f 1) N || ltb (f 1) (l .expressions))))
+  no-override = not-flag _
 
-named-good-requires : tie.Need-named-good-requires
-named-good-requires c κs = search needs
+  of-override : {r : Bool} → w < 2 → r ≡ typedBy l false (f 1) (f 2) → Right c o l f r 2
+  unfolding opened
+  of-override h e = flag h (e ∙ ap (λ x. ltb (f 1) (l .types) && x) (sym (and-true (eqb (f 2) N || ltb (f 2) (l .expressions)))))
 
-named-good-requires-2 : tie.Need-named-good-requires-2
-named-good-requires-2 c κs = search needs
+of-global : (c o : Words) (l : Limits) (f : ℕ → ℕ) {r : Bool} → r ≡ typedBy l false (f 0) (f 1) → Right c o l f r 3
+unfolding opened
+of-global c o l f e = e ∙ ap (λ x. ltb (f 0) (l .types) && x) (sym (and-true (eqb (f 1) N || ltb (f 1) (l .expressions))))
+
+word-requires : tie.Need-word-requires
+word-requires c κs = search needs
 
 typed-good-requires : tie.Need-typed-good-requires
 typed-good-requires c κs = search needs
+
+word-requires-2 : tie.Need-word-requires-2
+word-requires-2 c κs = search needs
+
+typed-good-requires-2 : tie.Need-typed-good-requires-2
+typed-good-requires-2 c κs = search needs
+
+typed-good-requires-3 : tie.Need-typed-good-requires-3
+typed-good-requires-3 c κs = search needs
 
 shape-requires : tie.Need-shape-requires
 shape-requires c κs = search needs
@@ -64,24 +86,46 @@ slots-good-requires c κs = search needs
 
 returns : tie.Need-returns
 returns c =
-    let a = c .before .before .before .before .before .args in
+    let a = c .before .before .before .before .before .before .before .args in
     let f = wordsFrom (a .ws .now) (a .at) in
-    at-keys (Right (a .constants .now) (a .overrides .now) (a .l) f _) (1 ∷ []) (of-constant (a .constants .now) (a .overrides .now) (a .l) f (c .named-good .ensures), tt) _ (c .before .match .keys1)
+    at-keys (Right (a .constants .now) (a .overrides .now) (a .l) f _) (1 ∷ [])
+    (of-constant (a .constants .now) (a .overrides .now) (a .l) f (c .before .before .word .ensures) (c .before .if1 .taken) (c .typed-good .ensures), tt)
+    _ (c .before .before .before .match .keys1)
 
 returns-2 : tie.Need-returns-2
 returns-2 c =
-    let a = c .before .before .before .before .before .args in
+    let a = c .before .before .before .before .before .before .args in
     let f = wordsFrom (a .ws .now) (a .at) in
-    at-keys (Right (a .constants .now) (a .overrides .now) (a .l) f _) (2 ∷ []) (of-override (a .constants .now) (a .overrides .now) (a .l) f (c .named-good2 .ensures), tt) _ (c .before .match .keys2)
+    at-keys (Right (a .constants .now) (a .overrides .now) (a .l) f _) (1 ∷ [])
+    (no-constant (a .constants .now) (a .overrides .now) (a .l) f (c .before .word .ensures) (c .if1 .left), tt)
+    _ (c .before .before .match .keys1)
 
 returns-3 : tie.Need-returns-3
 returns-3 c =
-    let a = c .before .before .before .before .before .args in
+    let a = c .before .before .before .before .before .before .before .args in
     let f = wordsFrom (a .ws .now) (a .at) in
-    at-keys (Right (a .constants .now) (a .overrides .now) (a .l) f _) (3 ∷ []) (of-global (a .constants .now) (a .overrides .now) (a .l) f (c .typed-good .ensures), tt) _ (c .before .match .keys3)
+    at-keys (Right (a .constants .now) (a .overrides .now) (a .l) f _) (2 ∷ [])
+    (of-override (a .constants .now) (a .overrides .now) (a .l) f (c .before .before .word2 .ensures) (c .before .if2 .taken) (c .typed-good2 .ensures), tt)
+    _ (c .before .before .before .match .keys2)
 
 returns-4 : tie.Need-returns-4
 returns-4 c =
+    let a = c .before .before .before .before .before .before .args in
+    let f = wordsFrom (a .ws .now) (a .at) in
+    at-keys (Right (a .constants .now) (a .overrides .now) (a .l) f _) (2 ∷ [])
+    (no-override (a .constants .now) (a .overrides .now) (a .l) f (c .before .word2 .ensures) (c .if2 .left), tt)
+    _ (c .before .before .match .keys2)
+
+returns-5 : tie.Need-returns-5
+returns-5 c =
+    let a = c .before .before .before .before .before .args in
+    let f = wordsFrom (a .ws .now) (a .at) in
+    at-keys (Right (a .constants .now) (a .overrides .now) (a .l) f _) (3 ∷ [])
+    (of-global (a .constants .now) (a .overrides .now) (a .l) f (c .typed-good3 .ensures), tt)
+    _ (c .before .match .keys3)
+
+returns-6 : tie.Need-returns-6
+returns-6 c =
     let a = c .before .before .before .before .before .before .before .args in
     let f = wordsFrom (a .ws .now) (a .at) in
     c .slots-good .ensures
@@ -92,9 +136,11 @@ pub record-good-spec : {M : Type 1} → statement M
 record-good-spec =
     tie.close
     (tie.spec
-    named-good-requires
-    named-good-requires-2
+    word-requires
     typed-good-requires
+    word-requires-2
+    typed-good-requires-2
+    typed-good-requires-3
     shape-requires
     arena-width-requires
     sub-slots-good
@@ -102,4 +148,6 @@ record-good-spec =
     returns
     returns-2
     returns-3
-    returns-4)
+    returns-4
+    returns-5
+    returns-6)

@@ -11,7 +11,7 @@ use Rattle.slots.specs.Codes.{wordsFrom}
 use Rattle.slots.proofs.Laws.{every-body}
 use Rattle.rules.specs.Rules.{asked}
 use Rattle.rules.proofs.Every.{tag-kept}
-use Rattle.rules.proofs.Places.{place-fits, place-words}
+use Rattle.slots.proofs.Places.{place-fits, place-words}
 use Rattle.rules.proofs.record_keeps.Statement.{statement}
 use Rattle.rules.proofs.record_keeps.Tie as tie
 

@@ -3,7 +3,6 @@
 use mathlib.Core.Path.{_≡_, refl, sym}
 use mathlib.Core.Bool.{Bool, true, false, not, _||_, cond}
 use Prim.Native.Nat.{ℕ, _≤_}
-use native.Mathlib.Numerals.{add-one}
 use native.Mathlib.Omega.{arith}
 use lib.Dec.{ltb}
 use borrow.Author.Needs.{needs}
@@ -28,22 +27,19 @@ word-requires c κs = search needs
 returns : tie.Need-returns
 returns c = rw (← c .before .before .word .ensures, le-ltb _ _ (c .if1 .taken))
 
-add-word : tie.Need-add-word
-add-word c = search needs
-
 word-requires-2 : tie.Need-word-requires-2
 word-requires-2 c κs = search needs
 
 returns-2 : tie.Need-returns-2
 returns-2 c =
     let a = c .before .before .before .before .before .before .args in
-    rw (← c .before .before .before .before .word .ensures, lt-ltb _ _ (c .before .before .if1 .left), ← add-one (a .k), ← c .before .word2 .ensures, c .if2 .taken) (absent (a .must) (a .l .expressions) (omega arith))
+    rw (← c .before .before .before .before .word .ensures, lt-ltb _ _ (c .before .before .if1 .left), ← c .before .word2 .ensures, c .if2 .taken) (absent (a .must) (a .l .expressions) (omega arith))
 
 returns-3 : tie.Need-returns-3
 returns-3 c =
     let a = c .before .before .before .before .before .before .before .args in
-    rw (← c .before .before .before .before .before .word .ensures, lt-ltb _ _ (c .before .before .before .if1 .left), ← add-one (a .k), ← c .before .before .word2 .ensures, ne-eqb _ _ (c .before .if2 .left)) (present (a .must) _)
+    rw (← c .before .before .before .before .before .word .ensures, lt-ltb _ _ (c .before .before .before .if1 .left), ← c .before .before .word2 .ensures, ne-eqb _ _ (c .before .if2 .left)) (present (a .must) _)
 
 pub typed-good-spec : {M : Type 1} → statement M
 typed-good-spec =
-    tie.close (tie.spec word-requires returns add-word word-requires-2 returns-2 returns-3)
+    tie.close (tie.spec word-requires returns word-requires-2 returns-2 returns-3)

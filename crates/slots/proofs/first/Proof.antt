@@ -2,14 +2,13 @@
 -- Assumes nothing.
 use mathlib.Core.Path.{_≡_, refl, sym}
 use mathlib.Core.List.{List, [], _∷_}
-use mathlib.Core.Logic.{_⊎_, inl, inr, ⊎-elim}
-use Prim.Native.Nat.{ℕ, zero, suc, _≤_, _<_, _%_}
+use Prim.Native.Nat.{ℕ}
 use native.Mathlib.Decide.{decLe}
 use native.Mathlib.Omega.{arith}
 use lib.ListN.{List·getD-eq-default}
 use Rattle.definitions.specs.Slots.{unused}
-use Rattle.slots.specs.Codes.{arenaOf, slotOf, codes, decoded}
-use Rattle.slots.specs.declared.Arena.the-variants.{Types, Constants, Overrides, Globals, Expressions}
+use Rattle.slots.specs.Codes.{slotOf, codes, decoded}
+use Rattle.slots.specs.declared.Arena.the-variants.{Types, Constants, Overrides, Expressions}
 use Rattle.slots.specs.declared.Slot.{Slot}
 use Rattle.slots.specs.declared.Slot.the-variants.{Unused, Free, Below, Must, May, Start, Count}
 use Rattle.slots.proofs.Decision.{NoneOf, at-keys, in-range}

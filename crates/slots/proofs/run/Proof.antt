@@ -1,13 +1,13 @@
 -- `slots::run` meets its contract.
 -- Assumes nothing.
-use mathlib.Core.Path.{_≡_, refl, sym, ap, ap₂, _∙_}
-use mathlib.Core.List.{List, [], _∷_}
+use mathlib.Core.Path.{_≡_, sym, ap, ap₂, _∙_}
+use mathlib.Core.List.{List}
 use Prim.Native.Nat.{ℕ, _+_, _-_, _≤_, min}
 use native.Mathlib.Decide.{decLe}
 use lib.ListN.{length, take, drop, length-drop, drop-of-length-le}
 use lib.Seq.{take-all, take-length, take-nil}
 use native.Mathlib.Omega.{arith}
-use Rattle.slots.specs.Codes.{wordsFrom, runIn}
+use Rattle.slots.specs.Codes.{runIn}
 use borrow.Author.Needs.{needs}
 use Rattle.slots.proofs.run.Statement.{statement}
 use Rattle.slots.proofs.run.Tie as tie

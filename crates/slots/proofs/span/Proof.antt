@@ -57,22 +57,41 @@ word-requires-2 : tie.Need-word-requires-2
 word-requires-2 c κs = search needs
 
 returns : tie.Need-returns
-returns c = at-keys (Is (c .word2 .result) (wordsFrom (c .before .before .before .before .before .args .ws .now) (c .before .before .before .before .before .args .at))) (0 ∷ []) (of-type _ _ (sym (c .before .before .before .word .ensures) ∙ c .before .if1 .taken) (c .word2 .ensures), tt) _ (c .before .before .match .keys1)
+returns c =
+    let a = c .before .before .before .before .before .args in
+    at-keys (Is _ (wordsFrom (a .ws .now) (a .at))) (0 ∷ [])
+    (of-type _ _ (sym (c .before .before .word .ensures) ∙ c .before .if1 .taken) (c .word2 .ensures), tt)
+    _ (c .before .before .before .match .keys1)
 
 word-requires-3 : tie.Need-word-requires-3
 word-requires-3 c κs = search needs
 
+word-requires-4 : tie.Need-word-requires-4
+word-requires-4 c κs = search needs
+
 returns-2 : tie.Need-returns-2
-returns-2 c = of-expression _ (c .before .before .before .before .before .before .args .area) (wordsFrom (c .before .before .before .before .before .before .args .ws .now) (c .before .before .before .before .before .before .args .at)) (c .before .before .if2 .left) (sym (c .before .before .before .before .word .ensures) ∙ c .before .if3 .taken) (c .word3 .ensures)
+returns-2 c =
+    let a = c .before .before .before .before .before .before .args in
+    of-expression _ (a .area) (wordsFrom (a .ws .now) (a .at)) (c .before .before .before .if2 .left)
+    (sym (c .before .before .word3 .ensures) ∙ c .before .if3 .taken) (c .word4 .ensures)
 
 returns-3 : tie.Need-returns-3
-returns-3 c = at-keys (Is 0 (wordsFrom (c .before .before .before .before .args .ws .now) (c .before .before .before .before .args .at))) (0 ∷ []) (no-type _ (λ e. c .if1 .left (c .before .before .word .ensures ∙ e)), tt) _ (c .before .match .keys1)
+returns-3 c =
+    let a = c .before .before .before .before .args in
+    at-keys (Is 0 (wordsFrom (a .ws .now) (a .at))) (0 ∷ [])
+    (no-type _ (λ e. c .if1 .left (c .before .word .ensures ∙ e)), tt)
+    _ (c .before .before .match .keys1)
 
 returns-4 : tie.Need-returns-4
-returns-4 c = between (c .before .before .before .before .args .area) (wordsFrom (c .before .before .before .before .args .ws .now) (c .before .before .before .before .args .at)) (c .before .match .rest .1) (c .if2 .taken)
+returns-4 c =
+    let a = c .before .before .before .args in
+    between (a .area) (wordsFrom (a .ws .now) (a .at)) (c .before .match .rest .1) (c .if2 .taken)
 
 returns-5 : tie.Need-returns-5
-returns-5 c = no-expression (c .before .before .before .before .before .args .area) (wordsFrom (c .before .before .before .before .before .args .ws .now) (c .before .before .before .before .before .args .at)) (c .before .if2 .left) (λ e. c .if3 .left (c .before .before .before .word .ensures ∙ e))
+returns-5 c =
+    let a = c .before .before .before .before .before .args in
+    no-expression (a .area) (wordsFrom (a .ws .now) (a .at)) (c .before .before .if2 .left)
+    (λ e. c .if3 .left (c .before .word3 .ensures ∙ e))
 
 pub span-spec : {M : Type 1} → statement M
 span-spec =
@@ -82,6 +101,7 @@ span-spec =
     word-requires-2
     returns
     word-requires-3
+    word-requires-4
     returns-2
     returns-3
     returns-4

@@ -3,16 +3,15 @@
 use mathlib.Core.Path.{_≡_, sym, ap, subst, _∙_}
 use mathlib.Core.Bool.{Bool}
 use mathlib.Core.List.{List, []}
-use Prim.Native.Nat.{ℕ, _+_, _*_, _<_}
+use Prim.Native.Nat.{ℕ, _*_}
 use native.Mathlib.Omega.{arith}
-use lib.ListN.{getD, take, drop}
-use mir.Syntax.{w64}
-use mir.Val.{Fits}
-use Rattle.definitions.specs.Areas.{Words, Areas, Arena, Elem, at, types, constants, overrides, globals, expressions, width, numbered, wordOf}
+use lib.ListN.{take, drop}
+use Rattle.definitions.specs.Areas.{Words, Areas, Arena, Elem, at, constants, overrides, globals, width, numbered, wordOf}
 use Rattle.arena.specs.HandleSet.{bit, member}
 use Rattle.arena.specs.declared.handle_set.Bases.{Bases}
 use Rattle.slots.specs.Codes.{wordsFrom, spanIn, runIn}
 use Rattle.slots.specs.Part.{part}
+use Rattle.slots.proofs.Places.{place-fits, place-words}
 use Rattle.trace.specs.Bits.{Marked}
 use Rattle.trace.proofs.Sets.{put-none}
 use Rattle.trace.proofs.Visit.{named, marked-named, visit-marked, visit-unmarked}
@@ -20,18 +19,10 @@ use borrow.Author.Needs.{needs}
 use Rattle.trace.proofs.trace.Statement.{statement}
 use Rattle.trace.proofs.trace.Tie as tie
 
-place-fits : (a : Arena) (i w : ℕ) → i < 4294967296 → w ≡ width a → Fits w64 (i * w)
-unfolding width
-place-fits types i w l e = rw e (omega arith)
-place-fits constants i w l e = rw e (omega arith)
-place-fits overrides i w l e = rw e (omega arith)
-place-fits globals i w l e = rw e (omega arith)
-place-fits expressions i w l e = rw e (omega arith)
-
 -- the words from its place on are the record's
-place-words : (s : Areas) (b : Bases) (a : Arena) (ws p : Words) (i : ℕ) {w : ℕ} {v u : List ℕ} → w ≡ width a → Marked s b (named a (wordsFrom ws (i * w)) p) v u
+at-place : (s : Areas) (b : Bases) (a : Arena) (ws p : Words) (i : ℕ) {w : ℕ} {v u : List ℕ} → w ≡ width a → Marked s b (named a (wordsFrom ws (i * w)) p) v u
     → Marked s b (named a (wordOf ws a i) p) v u
-place-words s b a ws p i {v = v} {u} e = subst (λ f. Marked s b (named a f p) v u) (ap (λ w k. getD ws (i * w + k) 0) e)
+at-place s b a ws p i {v = v} {u} e = subst (λ f. Marked s b (named a f p) v u) (place-words ws a i e)
 
 -- a run of length 0 is empty
 no-run : (a : Arena) (f : ℕ → ℕ) (p : Words) {n : ℕ} → n ≡ spanIn a f → n ≡ 0 → [] ≡ runIn a f p
@@ -83,7 +74,7 @@ returns c =
     let s = part (a .constants .now) (a .overrides .now) (a .globals .now) in
     let g = numbered (a .area) in
     visit-marked s (a .b) (at g (a .i)) _ (tested (a .b) (a .marks .now) (c .before .before .before .before .before .before .before .before .before .before .before .before .before .before .contains .ensures) (c .before .before .before .before .before .before .before .before .before .before .before .before .before .before .before .element .ensures) (c .before .before .before .before .before .before .before .before .before .before .before .before .before .before .before .before .arena-at .ensures) (c .before .before .before .before .before .before .before .before .before .before .before .before .before .if1 .taken))
-    (place-words s (a .b) g (a .ws .now) (a .pool .now) (a .i) (c .before .before .before .before .before .before .before .before .before .before .before .before .arena-width .ensures)
+    (at-place s (a .b) g (a .ws .now) (a .pool .now) (a .i) (c .before .before .before .before .before .before .before .before .before .before .before .before .arena-width .ensures)
     (marked-named s (a .b) g _ (a .pool .now) _ (c .before .before .before .before .before .before .before .before .before .before .shape .ensures) (c .before .before .before .run .ensures) (c .before .before .before .before .before .before .before .before .before .trace-slots .ensures) (c .before .before .trace-run .ensures)))
 
 same-length-2 : tie.Need-same-length-2
@@ -95,7 +86,7 @@ returns-2 c =
     let s = part (a .constants .now) (a .overrides .now) (a .globals .now) in
     let g = numbered (a .area) in
     visit-marked s (a .b) (at g (a .i)) _ (tested (a .b) (a .marks .now) (c .before .before .before .before .before .before .before .before .before .contains .ensures) (c .before .before .before .before .before .before .before .before .before .before .element .ensures) (c .before .before .before .before .before .before .before .before .before .before .before .arena-at .ensures) (c .before .before .before .before .before .before .before .before .if1 .taken))
-    (place-words s (a .b) g (a .ws .now) (a .pool .now) (a .i) (c .before .before .before .before .before .before .before .arena-width .ensures)
+    (at-place s (a .b) g (a .ws .now) (a .pool .now) (a .i) (c .before .before .before .before .before .before .before .arena-width .ensures)
     (marked-named s (a .b) g _ (a .pool .now) _ (c .before .before .before .before .before .shape .ensures) (no-run g _ (a .pool .now) (c .before .span .ensures) (c .if2 .left)) (c .before .before .before .before .trace-slots .ensures) (put-none _)))
 
 same-length-3 : tie.Need-same-length-3

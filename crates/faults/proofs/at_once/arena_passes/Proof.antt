@@ -9,7 +9,7 @@ use borrow.Author.Tests.{eqb-true, not-false}
 use Rattle.definitions.specs.Areas.{Areas, Arena, areasOf, numbered, words, size}
 use Rattle.rules.specs.Rules.{sizeIn}
 use Rattle.rules.proofs.Laws.{size-in}
-use Rattle.rules.proofs.Places.{place-fits}
+use Rattle.slots.proofs.Places.{place-fits}
 use Rattle.faults.specs.Checking.{most}
 use Rattle.faults.proofs.Arenas.{words-all, span-at, room-at}
 use Rattle.faults.proofs.AtOnce.{not-both, spans, Walked, passed-by, counted-on, leading-next, walked-none, walked-on, all-passed, all-used}

@@ -10,7 +10,7 @@ use Rattle.definitions.specs.Areas.{Areas, areasOf, numbered}
 use Rattle.faults.specs.Checking.{most}
 use Rattle.faults.proofs.Carries.{no-counts, no-leading, nothing-else, carried-le, counts, leads}
 use Rattle.faults.proofs.Arenas.{span-at}
-use Rattle.rules.proofs.Places.{place-fits}
+use Rattle.slots.proofs.Places.{place-fits}
 use Rattle.faults.proofs.places.carry.Statement.{statement}
 use Rattle.faults.proofs.places.carry.Tie as tie
 

@@ -9,7 +9,7 @@ use Rattle.definitions.specs.Areas.{Areas, areasOf, numbered}
 use Rattle.definitions.specs.Refusals.{heldAt}
 use Rattle.rules.specs.declared.Rule.the-variants.{Held}
 use Rattle.rules.specs.Rules.{sizeIn}
-use Rattle.rules.proofs.Places.{place-fits}
+use Rattle.slots.proofs.Places.{place-fits}
 use Rattle.faults.proofs.Records.{Asks, held-record, words-fail, run-decides}
 use Rattle.faults.proofs.places.held_at.Statement.{statement}
 use Rattle.faults.proofs.places.held_at.Tie as tie

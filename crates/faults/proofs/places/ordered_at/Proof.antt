@@ -8,7 +8,7 @@ use Rattle.definitions.specs.Areas.{Areas, areasOf, numbered}
 use Rattle.definitions.specs.Order.{wellOrdered}
 use Rattle.rules.specs.declared.Rule.the-variants.{Ordered}
 use Rattle.rules.specs.declared.Bounds.{Bounds}
-use Rattle.rules.proofs.Places.{place-fits}
+use Rattle.slots.proofs.Places.{place-fits}
 use Rattle.faults.specs.Checking.{boundsAt}
 use Rattle.faults.proofs.Records.{Asks, ordered-record, words-fail, run-decides}
 use Rattle.faults.proofs.places.ordered_at.Statement.{statement}

@@ -5,7 +5,7 @@ use native.Mathlib.Omega.{arith}
 use lib.ListN.{getD}
 use borrow.Author.Needs.{needs}
 use Rattle.definitions.specs.Areas.{Areas, Arena, areasOf, numbered, words}
-use Rattle.rules.proofs.Places.{place-fits}
+use Rattle.slots.proofs.Places.{place-fits}
 use Rattle.faults.specs.Checking.{most}
 use Rattle.faults.proofs.Arenas.{words-all}
 use Rattle.faults.proofs.Records.{shaped-record}

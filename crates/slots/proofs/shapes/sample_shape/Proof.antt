@@ -1,24 +1,23 @@
--- `slots::sample_shape` meets its contract.
+-- `slots::shapes::sample_shape` meets its contract.
 -- Assumes nothing.
-use mathlib.Core.Path.{_≡_, refl, sym, ap}
-use mathlib.Core.List.{List, [], _∷_}
-use Prim.Native.Nat.{ℕ, zero, suc, _≤_, _<_}
+use mathlib.Core.Path.{_≡_, refl}
+use mathlib.Core.List.{[], _∷_}
+use Prim.Native.Nat.{ℕ, zero, suc, _≤_}
 use native.Mathlib.Omega.{arith}
-use lib.ListN.{List·getD-eq-default}
-use Rattle.definitions.specs.Slots.{unused, below, fill, exprBody, exprSlots, levelSlots, querySlots}
-use Rattle.slots.specs.Codes.{codes, decoded, unpacked}
+use Rattle.definitions.specs.Slots.{fill, exprBody, exprSlots, levelSlots, querySlots}
+use Rattle.slots.specs.Codes.{codeOf, packed}
 use Rattle.slots.proofs.Decision.{at-keys, in-range}
-use Rattle.slots.proofs.sample_shape.Statement.{statement}
-use Rattle.slots.proofs.sample_shape.Tie as tie
+use Rattle.slots.proofs.shapes.sample_shape.Statement.{statement}
+use Rattle.slots.proofs.shapes.sample_shape.Tie as tie
 
 -- opens the table
 table : ℕ
-unfolding exprBody exprSlots levelSlots querySlots fill decoded codes unpacked
+unfolding exprBody exprSlots levelSlots querySlots fill codeOf packed
 table = 0
 
 -- the shape v is that of the form
 abbrev Right : ℕ → ℕ → Type 0
-Right v form = unpacked v 10 ≡ fill 10 (exprBody 15 form)
+Right v form = v ≡ packed (exprBody 15 form)
 
 past-table : (form : ℕ) → 5 ≤ form → Right 412508116316 form
 unfolding table
@@ -34,15 +33,15 @@ past-four form n l = omega arith
 
 returns : tie.Need-returns
 unfolding table
-returns c = at-keys (Right 435325130076) (4 ∷ []) (refl, tt) _ (c .match .keys1)
+returns c = at-keys (Right _) (4 ∷ []) (refl, tt) _ (c .match .keys1)
 
 returns-2 : tie.Need-returns-2
 unfolding table
-returns-2 c = in-range (Right 413850293596) ((4 ∷ []) ∷ []) 2 2 (refl, (refl, tt)) _ (c .before .before .match .rest) (omega arith) (omega arith)
+returns-2 c = in-range (Right _) ((4 ∷ []) ∷ []) 2 2 (refl, (refl, tt)) _ (c .before .before .match .rest) (omega arith) (omega arith)
 
 returns-3 : tie.Need-returns-3
 unfolding table
-returns-3 c = in-range (Right 412508116316) ((4 ∷ []) ∷ []) 0 2 (refl, (refl, tt)) _ (c .before .match .rest) (omega arith) (omega arith)
+returns-3 c = in-range (Right _) ((4 ∷ []) ∷ []) 0 2 (refl, (refl, tt)) _ (c .before .match .rest) (omega arith) (omega arith)
 
 returns-4 : tie.Need-returns-4
 returns-4 c =
