@@ -9,7 +9,7 @@ use Rattle.arena.specs.declared.ExpressionHandle.{ExpressionHandle}
 use Rattle.arena.specs.HandleSet.{member, Inserted, Cleared}
 use Rattle.arena.proofs.Sets.{Fit, words-equal}
 
--- an equation with a definition: every reader of words, `count`, `empty`, `width`, `limit`, `Bases::of`, `bit`, `contains`, `contains_bit`, `bit_at`
+-- an equation with a definition: every reader of words, `count`, `empty`, `width`, `limit`, `Bases::of`, `Sizes::of`, `bit`, `contains`, `contains_bit`, `bit_at`
 pub equal-once : {A : Type 0} {v r r′ : A} → r ≡ v → r′ ≡ v → r ≡ r′
 equal-once p q = p ∙ sym q
 

@@ -2,3 +2,4 @@
 pub mod Elements
 pub mod HandleSet
 pub mod Marks
+pub mod Sizes

@@ -1,6 +1,7 @@
 // What every later crate says of a module's elements: handles, records, and the set of marked elements.
 pub mod handle_set;
 mod records;
+mod sizes;
 
 pub use records::Constant;
 pub use records::Expression;
@@ -13,6 +14,7 @@ pub use records::POOL_WIDTH;
 pub use records::Type;
 pub use records::limit;
 pub use records::width;
+pub use sizes::Sizes;
 
 // A record's place in its area: a kind of handle for each arena, so that none stands where another is wanted.
 pub struct TypeHandle(pub u32);

@@ -35,8 +35,9 @@ use Rattle.faults.specs.Checking.{verdictOf}
 use Rattle.faults.specs.declared.Verdict.{Verdict}
 use Rattle.faults.specs.declared.Fault.{Fault}
 use Rattle.faults.specs.declared.Verdict.the-variants as verdict
-use Rattle.compact.specs.Answer.{sizesOf, outcomeWith, Compacts}
-use Rattle.compact.specs.declared.keep.Sizes.{Sizes}
+use Rattle.arena.specs.Sizes.{sizesOf}
+use Rattle.arena.specs.declared.sizes.Sizes.{Sizes}
+use Rattle.compact.specs.Answer.{outcomeWith, Compacts}
 use Rattle.compact.specs.declared.Compacted.the-variants.{Kept, Refused}
 
 -- two tests that agree on the first n records number them alike

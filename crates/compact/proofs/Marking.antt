@@ -11,17 +11,19 @@ use lib.Dec.{leb→le, lit<}
 use Rattle.definitions.specs.Areas.{Areas, types, expressions, size, mentionCount, recordsOf, lengthOf, allWords, widths, limits}
 use Rattle.definitions.specs.Order.{visits}
 use Rattle.definitions.specs.Sweep.{kept}
-use Rattle.definitions.proofs.Accepted.{Sound, facts}
+use Rattle.definitions.proofs.Accepted.{Sound, facts, size-few}
 use Rattle.arena.specs.HandleSet.{bases, member, room}
 use Rattle.arena.specs.declared.handle_set.Bases.{Bases}
 use Rattle.arena.specs.Marks.{Marks}
+use Rattle.arena.specs.Sizes.{sizesOf, countedIn}
+use Rattle.arena.specs.declared.sizes.Sizes.{Sizes}
+use Rattle.arena.proofs.Counting.{sizes-exact}
 use Rattle.arena.proofs.Elements.{end-records}
 use Rattle.arena.proofs.Marks.{marks-none}
 use Rattle.trace.specs.Bits.{Holds, Marked, sweepBits, rootsIn}
 use Rattle.trace.proofs.Bridge.{roots-in, records-few, root-marks, kept-marks}
 use Rattle.tandem.proofs.Laws.{whole-order}
-use Rattle.compact.specs.Answer.{Accepts, sizesOf}
-use Rattle.compact.specs.declared.keep.Sizes.{Sizes}
+use Rattle.compact.specs.Answer.{Accepts}
 
 -- words of 0 hold nothing
 getD-zeros : (n i : ℕ) → _≡_ {A = ℕ} (getD (replicate n 0) i 0) 0
@@ -34,20 +36,25 @@ unfolding member
 zeros-hold n j = rw (getD-zeros n (j / 64), zero-div (2 ^ (j % 64)))
 
 -- an accepted module's facts
-pub sound : (s : Areas) → Accepts s → Sound s
+sound : (s : Areas) → Accepts s → Sound s
 sound s a = facts s (a .0) (a .1) .sound
 
 -- and how few mentions it has
-pub mentions-few : (s : Areas) → Sound s → mentionCount s ≤ 4096
+mentions-few : (s : Areas) → Sound s → mentionCount s ≤ 4096
 unfolding mentionCount recordsOf lengthOf allWords widths limits
 mentions-few s c = leb→le _ _ (c .few 7 (lit< tt))
+
+-- so that the counts are its sizes
+pub sizes-are : (s : Areas) → Accepts s → {z : Sizes}
+    → z ≡ countedIn (s .types) (s .constants) (s .overrides) (s .globals) (s .expressions) (s .mentions) → z ≡ sizesOf s
+sizes-are s a e =
+    let c = sound s a in
+    sizes-exact s (λ x. omega (arith, size-few s (c .few) x)) (omega (arith, mentions-few s c)) e
 
 -- what the two stages do to the words, by the sizes and the bases they are given
 abbrev pub Stages : Areas → Bool → Sizes → Bases → List ℕ → List ℕ → List ℕ → Type 0
 Stages s keep z b before between after =
-    Marked s b
-    (rootsIn s keep (record { types = z .types; constants = z .constants; overrides = z .overrides; globals = z .globals; mentions = z .mentions }))
-    before between
+    Marked s b (rootsIn s keep z) before between
     → Holds between (sweepBits s b (room between) (take (z .types + z .expressions) (visits s (z .types) (z .expressions))) (member between)) after
     → Marks s after (kept s keep)
 

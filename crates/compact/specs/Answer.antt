@@ -5,12 +5,11 @@ use mathlib.Core.Bool.{Bool, true, false}
 use mathlib.Core.List.{List, [], _∷_}
 use Prim.Native.Nat.{ℕ}
 use lib.Dec.{T}
-use Rattle.definitions.specs.Areas.{Areas, Arena, size, mentionCount}
+use Rattle.definitions.specs.Areas.{Areas}
 use Rattle.definitions.specs.Refusals.{check, passes}
 use Rattle.definitions.specs.Outcome.{Maps, Outcome, lengths, outcome}
 use Rattle.compact.specs.declared.KeepUnused.{KeepUnused}
 use Rattle.compact.specs.declared.KeepUnused.the-variants.{No, Yes}
-use Rattle.compact.specs.declared.keep.Sizes.{Sizes}
 use Rattle.compact.specs.declared.Counts.{Counts}
 use Rattle.compact.specs.declared.Compacted.{Compacted}
 use Rattle.compact.specs.declared.Compacted.the-variants.{Kept, Refused}
@@ -18,18 +17,6 @@ use Rattle.compact.specs.declared.Compacted.the-variants.{Kept, Refused}
 -- the module is accepted, with some maps
 abbrev pub Accepts : Areas → Type 0
 Accepts s = (maps : List ℕ) × T (passes (check s maps))
-
--- how many records each arena of a module has, and how many mentions there are
-abbrev pub sizesOf : Areas → Sizes
-sizesOf s =
-    record {
-      types = size s Arena.types;
-      constants = size s Arena.constants;
-      overrides = size s Arena.overrides;
-      globals = size s Arena.globals;
-      expressions = size s Arena.expressions;
-      mentions = mentionCount s;
-    }
 
 -- `KeepUnused::Yes` is true
 abbrev pub keepOf : KeepUnused → Bool

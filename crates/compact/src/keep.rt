@@ -7,49 +7,11 @@ ghost use Rattle.definitions.specs.Areas.{areasOf, size};
 ghost use Rattle.definitions.specs.Sweep.{kept};
 ghost use Rattle.arena.specs.HandleSet.{bases};
 ghost use Rattle.arena.specs.Marks.{Marks};
-ghost use Rattle.compact.specs.Answer.{Accepts, sizesOf};
-use arena::Constant;
-use arena::Expression;
-use arena::Global;
-use arena::Mention;
-use arena::Override;
-use arena::Type;
+ghost use Rattle.arena.specs.Sizes.{sizesOf};
+ghost use Rattle.compact.specs.Answer.{Accepts};
+use arena::Sizes;
 use arena::handle_set::Bases;
 use tandem::Left;
-use trace::Counts;
-
-// How many records each arena has, and how many mentions there are.
-pub struct Sizes {
-    pub types: u32,
-    pub constants: u32,
-    pub overrides: u32,
-    pub globals: u32,
-    pub expressions: u32,
-    pub mentions: u32,
-}
-
-pub fn measure<'a>(
-    types: &'a [u32],
-    constants: &'a [u32],
-    overrides: &'a [u32],
-    globals: &'a [u32],
-    expressions: &'a [u32],
-    members: &'a [u32],
-    components: &'a [u32],
-    mentions: &'a [u32],
-) -> Sizes
-    requires { ⌜ Accepts (areasOf (now (types)) (now (constants)) (now (overrides)) (now (globals)) (now (expressions)) (now (members)) (now (components)) (now (mentions))) ⌝ }
-    ensures { λ r. ⌜ r ≡ sizesOf (areasOf (now (types .entry)) (now (constants .entry)) (now (overrides .entry)) (now (globals .entry)) (now (expressions .entry)) (now (members .entry)) (now (components .entry)) (now (mentions .entry))) ⌝ }
-{
-    Sizes {
-        types: Type::count(types) as u32,
-        constants: Constant::count(constants) as u32,
-        overrides: Override::count(overrides) as u32,
-        globals: Global::count(globals) as u32,
-        expressions: Expression::count(expressions) as u32,
-        mentions: Mention::count(mentions) as u32,
-    }
-}
 
 // Is every record kept ?
 pub fn all_kept(
@@ -95,18 +57,11 @@ pub fn mark<'a>(
     requires { ⌜ (Accepts (areasOf (now (types)) (now (constants)) (now (overrides)) (now (globals)) (now (expressions)) (now (members)) (now (components)) (now (mentions)))) × (z ≡ sizesOf (areasOf (now (types)) (now (constants)) (now (overrides)) (now (globals)) (now (expressions)) (now (members)) (now (components)) (now (mentions)))) × (b ≡ bases (size (areasOf (now (types)) (now (constants)) (now (overrides)) (now (globals)) (now (expressions)) (now (members)) (now (components)) (now (mentions))))) × (now marks ≡ replicate 320 0) ⌝ }
     ensures { λ _. ⌜ Marks (areasOf (now (types .entry)) (now (constants .entry)) (now (overrides .entry)) (now (globals .entry)) (now (expressions .entry)) (now (members .entry)) (now (components .entry)) (now (mentions .entry))) (now (marks .exit)) (kept (areasOf (now (types .entry)) (now (constants .entry)) (now (overrides .entry)) (now (globals .entry)) (now (expressions .entry)) (now (members .entry)) (now (components .entry)) (now (mentions .entry))) keep) ⌝ }
 {
-    let n = Counts {
-        types: z.types,
-        constants: z.constants,
-        overrides: z.overrides,
-        globals: z.globals,
-        mentions: z.mentions,
-    };
     trace::mark_roots(
         marks,
         b,
         keep,
-        n,
+        z,
         types,
         constants,
         overrides,

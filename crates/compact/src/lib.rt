@@ -5,6 +5,7 @@ ghost use mathlib.Core.Path.{_≡_};
 ghost use Rattle.definitions.specs.Areas.{areasOf};
 ghost use Rattle.adjust.specs.Rewrite.{mapsOf};
 ghost use Rattle.compact.specs.Answer.{keepOf, Compacts};
+use arena::Sizes;
 use arena::handle_set::Bases;
 pub use faults::Fault;
 use faults::Verdict;
@@ -79,16 +80,7 @@ pub fn compact(
     if let Verdict::Refused(f) = v {
         return Compacted::Refused(f);
     }
-    let z = keep::measure(
-        types,
-        constants,
-        overrides,
-        globals,
-        expressions,
-        members,
-        components,
-        mentions,
-    );
+    let z = Sizes::of(types, constants, overrides, globals, expressions, mentions);
     let b = Bases::of(z.types, z.constants, z.overrides, z.globals, z.expressions);
     let mut marks = [0u64; 320];
     keep::mark(

@@ -2,12 +2,15 @@
 -- Assumes nothing.
 use mathlib.Core.Path.{_≡_, refl, sym, ap, ap₂, _∙_}
 use mathlib.Core.List.{[]}
-use Prim.Native.Nat.{ℕ, zero, suc, _*_, _/_, _≤_, _<_}
+use Prim.Native.Nat.{ℕ, zero, suc, _*_, _≤_, _<_}
 use native.Mathlib.Nat.{div-one}
 use native.Mathlib.Omega.{arith}
 use lib.ListN.{length}
-use Rattle.definitions.specs.Areas.{Words, Areas, Arena, types, constants, overrides, globals, expressions, areasOf, numbered, words, wordOf, word, pool, allWords, lengthOf, recordsOf, size, width, widths, mentionWidth}
+use Rattle.definitions.specs.Areas.{Words, Areas, Arena, types, constants, overrides, globals, expressions, areasOf, numbered, words, wordOf, word, pool, allWords, lengthOf, recordsOf, size, width, widths, mentionCount}
 use Rattle.definitions.specs.References.{span, run}
+use Rattle.arena.specs.Sizes.{sizesOf, countedIn}
+use Rattle.arena.specs.declared.sizes.Sizes.{Sizes}
+use Rattle.arena.proofs.Counting.{sizes-exact}
 use Rattle.slots.specs.Codes.{wordsFrom, spanIn, runIn}
 use Rattle.slots.proofs.Laws.{span-in, run-in}
 use Rattle.slots.proofs.Places.{place-words}
@@ -99,9 +102,14 @@ size-le s f globals = f .few 3 (omega arith)
 size-le s f expressions = f .few 4 (omega arith)
 
 -- and of the mentions
-pub mentions-le : (s : Areas) → Measured s → {n : ℕ} → n ≡ length (s .mentions) / mentionWidth → n ≤ 16384
-unfolding recordsOf lengthOf allWords widths width
-mentions-le s f e = rw e (f .few 7 (omega arith))
+mentions-le : (s : Areas) → Measured s → mentionCount s ≤ 16384
+unfolding mentionCount recordsOf lengthOf allWords widths width
+mentions-le s f = f .few 7 (omega arith)
+
+-- so that the counts are the sizes
+pub sizes-are : (s : Areas) → Measured s → {z : Sizes}
+    → z ≡ countedIn (s .types) (s .constants) (s .overrides) (s .globals) (s .expressions) (s .mentions) → z ≡ sizesOf s
+sizes-are s f e = sizes-exact s (λ a. omega (arith, size-le s f a)) (omega (arith, mentions-le s f)) e
 
 -- and of the pools
 pub room-le : (s : Areas) → Measured s → (a : Arena) → length (pool s a) ≤ 16384

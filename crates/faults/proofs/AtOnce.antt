@@ -26,8 +26,9 @@ use Rattle.rules.specs.declared.Limits.{Limits}
 use Rattle.rules.specs.declared.Run.{Run}
 use Rattle.rules.specs.declared.Rule.{Rule}
 use Rattle.rules.specs.declared.Rule.the-variants.{Shaped, Held, Ordered}
-use Rattle.rules.specs.declared.Sizes.{Sizes}
-use Rattle.rules.specs.Rules.{sizeIn, sizesOf, within, goodBy, leading}
+use Rattle.arena.specs.Sizes.{sizesOf}
+use Rattle.arena.specs.declared.sizes.Sizes.{Sizes}
+use Rattle.rules.specs.Rules.{sizeIn, within, goodBy, leading}
 use Rattle.rules.proofs.Laws.{size-in, leading-le}
 use Rattle.rules.proofs.AtOnce.{Enough, good-keeps, good-kind}
 use Rattle.faults.specs.Checking.{Measured, most, limitsAt, boundsAt, looksAt, okAt, carriedAt, carriedTo, placesIn, placesAt, ownerOf, ok4, inTurn, scanArea, Passed, Used}
@@ -230,8 +231,8 @@ module _ (s : Areas) (area : ℕ) where
     -- the last: every place is good
     pub all-passed : Passed s area
     all-passed k j a b l =
-        let t = looks-there (sizesOf s) (mentionCount s) k area l few in
-        let q : j < sizeIn (sizesOf s) (numbered area) = subst (λ p. j < p) (sym (records (sizesOf s) (mentionCount s) k area few t)) l in
+        let t = looks-there (sizesOf s) k area l few in
+        let q : j < sizeIn (sizesOf s) (numbered area) = subst (λ p. j < p) (sym (records (sizesOf s) k area few t)) l in
         h .good j (omega (arith, size-in s (numbered area))) k a b t
 
     -- and the runs use up the pool, where the counts are its length
@@ -258,13 +259,13 @@ module _ (s : Areas) where
   ]
 
   -- all
-  pub mentions-passed : (i : ℕ) {n : ℕ} → n ≡ length (s .mentions) / mentionWidth → n ≤ i → ((j : ℕ) → j < i → MentionGood s j) → Passed s 7
-  unfolding placesIn mentionCount
+  pub mentions-passed : (i : ℕ) {z : Sizes} → z ≡ sizesOf s → z .mentions ≤ i → ((j : ℕ) → j < i → MentionGood s j) → Passed s 7
+  unfolding placesIn
   mentions-passed i e o f k j a b l =
-      ⊎-elim (λ q. rw q (f j (there q) .0)) (λ q. rw q (f j (there′ q) .1)) (mention-four-six (sizesOf s) (mentionCount s) k 7 l (omega arith))
+      ⊎-elim (λ q. rw q (f j (there q) .0)) (λ q. rw q (f j (there′ q) .1)) (mention-four-six (sizesOf s) k 7 l (omega arith))
     where
       few : j < mentionCount s → j < i
-      few h = omega arith
+      few h = omega (arith, ap (λ z. z .mentions) e)
 
       there : k ≡ 4 → j < i
       there q = few (rw q at l)
@@ -277,7 +278,7 @@ module _ (s : Areas) where
 module _ (s : Areas) where
   pub pool-passed : (a : ℕ) → 5 ≤ a → a < 7 → Used s (ownerOf a) → Passed s a
   unfolding okAt ok4
-  pool-passed a x y u n i l k h = rw (pool-four (sizesOf s) (mentionCount s) n a h x y, le-ltb a 5 x, lt-ltb a 7 y) (eq-eqb _ _ u)
+  pool-passed a x y u n i l k h = rw (pool-four (sizesOf s) n a h x y, le-ltb a 5 x, lt-ltb a 7 y) (eq-eqb _ _ u)
 
   -- a module all of whose arenas and mentions pass has no fault
   pub no-fault : ((a : ℕ) → a < 5 → Passed s a × Used s (numbered a)) → Passed s 7 → (n : ℕ) → 4 ≤ n → n < 8 → inTurn (scanArea s n) 0 8 ≡ accepted

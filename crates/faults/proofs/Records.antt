@@ -15,11 +15,12 @@ use Rattle.definitions.specs.Order.{behind, withBehind, later, wellOrdered}
 use Rattle.definitions.specs.Refusals.{every, runsBefore, shapedAt, heldAt}
 use Rattle.slots.specs.Codes.{wordsFrom, spanIn, runIn}
 use Rattle.slots.proofs.Decision.{at-keys}
-use Rattle.rules.specs.declared.Sizes.{Sizes}
+use Rattle.arena.specs.Sizes.{sizesOf}
+use Rattle.arena.specs.declared.sizes.Sizes.{Sizes}
 use Rattle.rules.specs.declared.Bounds.{Bounds}
 use Rattle.rules.specs.declared.Rule.{Rule}
 use Rattle.rules.specs.declared.Rule.the-variants.{Shaped, Held, Ordered}
-use Rattle.rules.specs.Rules.{sizeIn, sizesOf, heldBy, within, asked, leading}
+use Rattle.rules.specs.Rules.{sizeIn, heldBy, within, asked, leading}
 use Rattle.rules.proofs.Laws.{held-by, shaped-by, ordered-list, leading-dep}
 use Rattle.slots.specs.Part.{part}
 use Rattle.slots.proofs.Laws.{behind-part}

@@ -19,8 +19,9 @@ use Rattle.definitions.specs.Refusals.{runsBefore, shapedAt, ofModule, inside, 
 use Rattle.definitions.proofs.ListLaws.{total-cong}
 use Rattle.slots.specs.Codes.{spanIn}
 use Rattle.slots.proofs.Laws.{span-in}
-use Rattle.rules.specs.declared.Sizes.{Sizes}
-use Rattle.rules.specs.Rules.{sizeIn, sizesOf, heldBy}
+use Rattle.arena.specs.Sizes.{sizesOf}
+use Rattle.arena.specs.declared.sizes.Sizes.{Sizes}
+use Rattle.rules.specs.Rules.{sizeIn, heldBy}
 use Rattle.rules.proofs.Laws.{held-by}
 use Rattle.faults.specs.Checking.{ok4, ok6, okAt, ownerOf, looksAt, placesIn}
 
@@ -48,35 +49,35 @@ seven-looks n a e t = elim (ℕ-discrete a 0) [
 
 -- ---- how many places
 
-module _ (z : Sizes) (m n a : ℕ) where
-  pub records : a < 5 → looksAt n a ≡ true → sizeIn z (numbered a) ≡ placesIn z m n a
+module _ (z : Sizes) (n a : ℕ) where
+  pub records : a < 5 → looksAt n a ≡ true → sizeIn z (numbered a) ≡ placesIn z n a
   unfolding placesIn
   records l e = rw (lt-ltb a 5 l, e)
 
-  pub no-records : a < 5 → looksAt n a ≡ false → 0 ≡ placesIn z m n a
+  pub no-records : a < 5 → looksAt n a ≡ false → 0 ≡ placesIn z n a
   unfolding placesIn
   no-records l e = rw (lt-ltb a 5 l, e)
 
-  pub one-pool : 5 ≤ a → a < 7 → n ≡ 4 → 1 ≡ placesIn z m n a
+  pub one-pool : 5 ≤ a → a < 7 → n ≡ 4 → 1 ≡ placesIn z n a
   unfolding placesIn
   one-pool k l e = rw (le-ltb a 5 k, lt-ltb a 7 l, e)
 
-  pub no-pool : 5 ≤ a → a < 7 → (n ≡ 4 → ⊥) → 0 ≡ placesIn z m n a
+  pub no-pool : 5 ≤ a → a < 7 → (n ≡ 4 → ⊥) → 0 ≡ placesIn z n a
   unfolding placesIn
   no-pool k l e = rw (le-ltb a 5 k, lt-ltb a 7 l, ne-eqb n 4 e)
 
-  pub mentions : 7 ≤ a → (n ≡ 4) ⊎ (n ≡ 6) → m ≡ placesIn z m n a
+  pub mentions : 7 ≤ a → (n ≡ 4) ⊎ (n ≡ 6) → z .mentions ≡ placesIn z n a
   unfolding placesIn
   mentions k o =
       rw (le-ltb a 5 (omega arith), le-ltb a 7 k)
       (⊎-elim (λ e. rw e) (λ e. rw e) o)
 
-  pub no-mentions : 7 ≤ a → (n ≡ 4 → ⊥) → (n ≡ 6 → ⊥) → 0 ≡ placesIn z m n a
+  pub no-mentions : 7 ≤ a → (n ≡ 4 → ⊥) → (n ≡ 6 → ⊥) → 0 ≡ placesIn z n a
   unfolding placesIn
   no-mentions k p q = rw (le-ltb a 5 (omega arith), le-ltb a 7 k, ne-eqb n 4 p, ne-eqb n 6 q)
 
   -- where there is a place, the number looks there
-  module _ {i : ℕ} (l : i < placesIn z m n a) where
+  module _ {i : ℕ} (l : i < placesIn z n a) where
     pub looks-there : a < 5 → looksAt n a ≡ true
     looks-there k = go (looksAt n a) refl
       where

@@ -1,23 +1,21 @@
 -- The nested loops: what is left of the areas, and of an area's places, decides.
 -- Assumes nothing.
-use mathlib.Core.Path.{_≡_, sym, ap, ap₂, _∙_}
+use mathlib.Core.Path.{_≡_, sym, ap, _∙_}
 use mathlib.Core.Bool.{Bool, true, false, not}
 use mathlib.Core.List.{[], _∷_}
-use Prim.Native.Nat.{ℕ, _+_, _-_, _/_, _≤_, _<_}
-use lib.ListN.{length}
+use Prim.Native.Nat.{ℕ, _+_, _-_, _≤_, _<_}
 use borrow.Author.Tests.{not-true, not-false}
-use Rattle.definitions.specs.Areas.{Areas, mentionWidth, mentionCount}
+use Rattle.definitions.specs.Areas.{Areas}
 use Rattle.definitions.specs.Refusals.{Verdict, accepted, refused, firstOf, scan}
-use Rattle.rules.specs.Rules.{sizesOf}
-use Rattle.rules.specs.declared.Sizes.{Sizes}
+use Rattle.arena.specs.Sizes.{sizesOf}
+use Rattle.arena.specs.declared.sizes.Sizes.{Sizes}
 use Rattle.faults.specs.Checking.{inTurn, scanArea, okAt, placesAt, placesIn}
 use Rattle.faults.proofs.Scans.{scan-whole, scan-on, scan-stop, scan-end, first-on, first-stop, turn-open, turn-end}
 
 module _ (s : Areas) (n : ℕ) where
-  -- how many places area a has, by the sizes and how many mentions there are
-  pub places-are : (a : ℕ) {z : Sizes} {k m : ℕ} → z ≡ sizesOf s → k ≡ length (s .mentions) / mentionWidth → m ≡ placesIn z k n a → m ≡ placesAt s n a
-  unfolding mentionCount
-  places-are a e q p = p ∙ ap₂ (λ z k. placesIn z k n a) e q
+  -- how many places area a has, by the sizes
+  pub places-are : (a : ℕ) {z : Sizes} {m : ℕ} → z ≡ sizesOf s → m ≡ placesIn z n a → m ≡ placesAt s n a
+  places-are a e p = p ∙ ap (λ z. placesIn z n a) e
 
   -- the areas from a on decide
   abbrev pub AreasLeft : ℕ → Type 0

@@ -7,7 +7,7 @@ use Prim.Native.Nat.{ℕ, zero, suc, _/_, _%_, _≤_, _<_, min}
 use lib.ListN.{length, getD}
 use lib.Dec.{eqb, ltb, leb}
 use Rattle.definitions.specs.Areas as areas
-use Rattle.definitions.specs.Areas.{Areas, types, expressions, numbered, size, pool, recordsOf, width, widths, limits, mentionCount, mentionWord}
+use Rattle.definitions.specs.Areas.{Areas, types, expressions, numbered, size, pool, recordsOf, width, widths, limits, mentionWord}
 use Rattle.definitions.specs.Order.{wellOrdered}
 use Rattle.definitions.specs.Roots.{mention}
 use Rattle.definitions.specs.Refusals.{accepted, refused, firstOf, scan, runsBefore, shapedAt, heldAt, inside, ofModule}
@@ -15,11 +15,12 @@ use Rattle.definitions.specs.Refusals as R
 use Rattle.faults.specs.declared.Verdict.{Verdict}
 use Rattle.faults.specs.declared.Verdict.the-variants.{Accepted, Refused}
 use Rattle.faults.specs.declared.places.Carried.{Carried}
-use Rattle.rules.specs.declared.Sizes.{Sizes}
 use Rattle.rules.specs.declared.Bounds.{Bounds}
 use Rattle.rules.specs.declared.Limits.{Limits}
 use Rattle.rules.specs.declared.Run.{Run}
-use Rattle.rules.specs.Rules.{sizeIn, sizesOf, leading}
+use Rattle.arena.specs.Sizes.{sizesOf}
+use Rattle.arena.specs.declared.sizes.Sizes.{Sizes}
+use Rattle.rules.specs.Rules.{sizeIn, leading}
 
 -- the verdict of document 01 that the code's is: number, area, record
 abbrev pub verdictOf : Verdict → R.Verdict
@@ -70,14 +71,14 @@ unfoldable pub looksAt : ℕ → ℕ → Bool
 looksAt n a = cond (eqb n 5) (eqb a 4) (cond (eqb n 7) (eqb a 0 || eqb a 4) true)
 
 -- how many places an area has under a number: its records, a pool one; 0 where the number doesn't look
-unfoldable pub placesIn : Sizes → ℕ → ℕ → ℕ → ℕ
-placesIn z mentions n a =
+unfoldable pub placesIn : Sizes → ℕ → ℕ → ℕ
+placesIn z n a =
     cond (ltb a 5) (cond (looksAt n a) (sizeIn z (numbered a)) 0)
-    (cond (ltb a 7) (cond (eqb n 4) 1 0) (cond (eqb n 4 || eqb n 6) mentions 0))
+    (cond (ltb a 7) (cond (eqb n 4) 1 0) (cond (eqb n 4 || eqb n 6) (z .mentions) 0))
 
 -- and in a module
 abbrev pub placesAt : Areas → ℕ → ℕ → ℕ
-placesAt s n a = placesIn (sizesOf s) (mentionCount s) n a
+placesAt s n a = placesIn (sizesOf s) n a
 
 -- the first fault of an area under a number
 unfoldable pub scanArea : Areas → ℕ → ℕ → R.Verdict

@@ -9,13 +9,14 @@ ghost use Rattle.definitions.specs.Areas.{areasOf, numbered};
 ghost use Rattle.definitions.specs.Slots.{body};
 ghost use Rattle.definitions.specs.Refusals.{accepted, every};
 ghost use Rattle.slots.specs.Codes.{wordsFrom, spanIn, runIn};
-ghost use Rattle.rules.specs.Rules.{sizesOf, goodBy, leading};
+ghost use Rattle.arena.specs.Sizes.{sizesOf};
+ghost use Rattle.rules.specs.Rules.{goodBy, leading};
 ghost use Rattle.faults.specs.Checking.{Measured, limitsAt, Passed, Used, inTurn, scanArea};
 use crate::places;
 use arena::Mention;
+use arena::Sizes;
 use rules::Limits;
 use rules::Run;
-use rules::Sizes;
 
 // The limits of record i of an area; `before` types have dep below expression i.
 fn limits(area: u32, i: u32, before: u32, z: Sizes, run: Run) -> Limits
@@ -135,7 +136,7 @@ fn mentions_pass<'a>(
     requires { ⌜ z ≡ sizesOf (areasOf (now (types)) (now (constants)) (now (overrides)) (now (globals)) (now (expressions)) (now (members)) (now (components)) (now (mentions))) ⌝ }
     ensures { λ r. ⌜ (r ≡ true → Passed (areasOf (now (types .entry)) (now (constants .entry)) (now (overrides .entry)) (now (globals .entry)) (now (expressions .entry)) (now (members .entry)) (now (components .entry)) (now (mentions .entry))) 7) ⌝ }
 {
-    let n = Mention::count(mentions) as u32;
+    let n = z.mentions;
     let mut i = 0;
     while i < n {
         let area = Mention::area(mentions, i);
@@ -164,16 +165,7 @@ pub fn passes<'a>(
     requires { ⌜ Measured (areasOf (now (types)) (now (constants)) (now (overrides)) (now (globals)) (now (expressions)) (now (members)) (now (components)) (now (mentions))) ⌝ }
     ensures { λ r. ⌜ (r ≡ true → (n : ℕ) → 4 ≤ n → n < 8 → inTurn (scanArea (areasOf (now (types .entry)) (now (constants .entry)) (now (overrides .entry)) (now (globals .entry)) (now (expressions .entry)) (now (members .entry)) (now (components .entry)) (now (mentions .entry))) n) 0 8 ≡ accepted) ⌝ }
 {
-    let z = places::sizes(
-        types,
-        constants,
-        overrides,
-        globals,
-        expressions,
-        members,
-        components,
-        mentions,
-    );
+    let z = Sizes::of(types, constants, overrides, globals, expressions, mentions);
     let mut area = 0;
     while area < 5 {
         if !arena_passes(

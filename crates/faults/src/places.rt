@@ -7,21 +7,18 @@ ghost use Prim.Native.Nat.{_+_, _≤_, _<_, min};
 ghost use Rattle.definitions.specs.Areas.{areasOf, numbered, words, pool};
 ghost use Rattle.definitions.specs.Order.{wellOrdered};
 ghost use Rattle.definitions.specs.Refusals.{runsBefore, shapedAt, heldAt};
-ghost use Rattle.rules.specs.Rules.{sizeIn, sizesOf, leading};
+ghost use Rattle.arena.specs.Sizes.{sizesOf};
+ghost use Rattle.rules.specs.Rules.{sizeIn, leading};
 ghost use Rattle.faults.specs.Checking.{Measured, verdictOf, boundsAt, most, looksAt, okAt, placesIn, placesAt, carriedAt, carriedTo, inTurn, scanArea};
 use crate::Fault;
 use crate::Verdict;
-use arena::Constant;
 use arena::Expression;
 use arena::ExpressionHandle;
-use arena::Global;
 use arena::Mention;
-use arena::Override;
-use arena::Type;
+use arena::Sizes;
 use rules::Bounds;
 use rules::Rule;
 use rules::Run;
-use rules::Sizes;
 
 // Where the nested loops were left.
 enum Place {
@@ -60,40 +57,11 @@ pub fn pool_words<'a>(area: u32, members: &'a [u32], components: &'a [u32]) -> &
     }
 }
 
-// How many records each arena has.
-pub fn sizes<'a>(
-    types: &'a [u32],
-    constants: &'a [u32],
-    overrides: &'a [u32],
-    globals: &'a [u32],
-    expressions: &'a [u32],
-    members: &'a [u32],
-    components: &'a [u32],
-    mentions: &'a [u32],
-) -> Sizes
-    requires { ⌜ Measured (areasOf (now (types)) (now (constants)) (now (overrides)) (now (globals)) (now (expressions)) (now (members)) (now (components)) (now (mentions))) ⌝ }
-    ensures { λ r. ⌜ r ≡ sizesOf (areasOf (now (types .entry)) (now (constants .entry)) (now (overrides .entry)) (now (globals .entry)) (now (expressions .entry)) (now (members .entry)) (now (components .entry)) (now (mentions .entry))) ⌝ }
-{
-    Sizes {
-        types: Type::count(types) as u32,
-        constants: Constant::count(constants) as u32,
-        overrides: Override::count(overrides) as u32,
-        globals: Global::count(globals) as u32,
-        expressions: Expression::count(expressions) as u32,
-    }
-}
-
 // How many records the arena of an area has.
 pub fn own_size(area: u32, z: Sizes) -> u32
     ensures { λ r. ⌜ r ≡ sizeIn z (numbered area) ⌝ }
 {
-    match area {
-        0 => z.types,
-        1 => z.constants,
-        2 => z.overrides,
-        3 => z.globals,
-        _ => z.expressions,
-    }
+    rules::size_in(z, slots::arena_at(area))
 }
 
 // Does the number look at the records of the arena ? 5 at expressions alone, 7 at types and expressions.
@@ -108,8 +76,8 @@ fn looks_at(number: u32, area: u32) -> bool
 }
 
 // How many places an area has under a number: its records, a pool one; 0 where the number doesn't look.
-fn places(number: u32, area: u32, z: Sizes, mentions: u32) -> u32
-    ensures { λ r. ⌜ r ≡ placesIn z mentions number area ⌝ }
+fn places(number: u32, area: u32, z: Sizes) -> u32
+    ensures { λ r. ⌜ r ≡ placesIn z number area ⌝ }
 {
     if area < 5 {
         if looks_at(number, area) {
@@ -124,7 +92,7 @@ fn places(number: u32, area: u32, z: Sizes, mentions: u32) -> u32
         return 0;
     }
     if number == 4 || number == 6 {
-        return mentions;
+        return z.mentions;
     }
     0
 }
@@ -480,23 +448,13 @@ pub fn first<'a>(
     requires { ⌜ Measured (areasOf (now (types)) (now (constants)) (now (overrides)) (now (globals)) (now (expressions)) (now (members)) (now (components)) (now (mentions))) ⌝ }
     ensures { λ r. ⌜ verdictOf r ≡ inTurn (scanArea (areasOf (now (types .entry)) (now (constants .entry)) (now (overrides .entry)) (now (globals .entry)) (now (expressions .entry)) (now (members .entry)) (now (components .entry)) (now (mentions .entry))) number) 0 8 ⌝ }
 {
-    let z = sizes(
-        types,
-        constants,
-        overrides,
-        globals,
-        expressions,
-        members,
-        components,
-        mentions,
-    );
-    let count = Mention::count(mentions) as u32;
+    let z = Sizes::of(types, constants, overrides, globals, expressions, mentions);
     let mut area = 0;
     let place = 'areas: loop {
         if 8 <= area {
             break 'areas Place::Nowhere;
         }
-        let n = places(number, area, z, count);
+        let n = places(number, area, z);
         let mut carried = Carried { sum: 0, types: 0 };
         let mut i = 0;
         while i < n {

@@ -17,8 +17,9 @@ use Rattle.definitions.specs.Order.{behind, withBehind, sizedBy, pastDep}
 use Rattle.definitions.specs.Refusals.{every, runsBefore, shaped, inside, held}
 use Rattle.definitions.proofs.Kept.{sized-past}
 use Rattle.definitions.proofs.Tandem.{past-mono}
+use Rattle.arena.specs.Sizes.{sizesOf}
 use Rattle.rules.specs.declared.Run.{Run}
-use Rattle.rules.specs.Rules.{sizeIn, sizesOf, shapedBy, heldBy, leading}
+use Rattle.rules.specs.Rules.{sizeIn, shapedBy, heldBy, leading}
 
 -- the sizes of a module, arena by arena
 pub size-in : (s : Areas) (a : Arena) → size s a ≡ sizeIn (sizesOf s) a

@@ -4,12 +4,12 @@ use mathlib.Core.Bool.{Bool, true, false, _&&_, _||_, cond}
 use Prim.Native.Nat.{ℕ, zero, suc, _+_}
 use lib.Dec.{eqb, ltb, leb}
 use Rattle.definitions.specs.Lists.{all}
-use Rattle.definitions.specs.Areas.{Words, N, Arena, Areas, Elem, at, types, constants, overrides, globals, expressions, size, wordOf}
+use Rattle.definitions.specs.Areas.{Words, N, Arena, Areas, Elem, at, types, constants, overrides, globals, expressions, wordOf}
 use Rattle.definitions.specs.Slots.{Slot, unused, free, below, must, may, start, count}
 use Rattle.definitions.specs.References.{namedBy}
 use Rattle.definitions.specs.Order.{sizedBy, withBehind}
+use Rattle.arena.specs.declared.sizes.Sizes.{Sizes}
 use Rattle.slots.specs.Part.{part}
-use Rattle.rules.specs.declared.Sizes.{Sizes}
 use Rattle.rules.specs.declared.Bounds.{Bounds}
 use Rattle.rules.specs.declared.Run.{Run}
 use Rattle.rules.specs.declared.Limits.{Limits}
@@ -23,17 +23,6 @@ sizeIn z constants = z .constants
 sizeIn z overrides = z .overrides
 sizeIn z globals = z .globals
 sizeIn z expressions = z .expressions
-
--- the sizes of a module
-abbrev pub sizesOf : Areas → Sizes
-sizesOf s =
-    record {
-      types = size s types;
-      constants = size s constants;
-      overrides = size s overrides;
-      globals = size s globals;
-      expressions = size s expressions;
-    }
 
 -- number 4: `shaped`, given the sum of the counts before, the record's own count and the pool's length
 unfoldable pub shapedBy : Run → Slot → ℕ → Bool

@@ -22,20 +22,12 @@ use arena::Global;
 use arena::N;
 use arena::Override;
 use arena::OverrideHandle;
+use arena::Sizes;
 use arena::Type;
 use arena::TypeHandle;
 use slots::Arena;
 use slots::Slot;
 use slots::code;
-
-// How many records each arena has.
-pub struct Sizes {
-    pub types: u32,
-    pub constants: u32,
-    pub overrides: u32,
-    pub globals: u32,
-    pub expressions: u32,
-}
 
 // The counts before a record's run, as far as a word can equal them, its own count, and its pool's length.
 pub struct Run {
@@ -68,6 +60,7 @@ pub enum Rule {
     Ordered(Bounds),
 }
 
+// How many records an arena has.
 pub fn size_in(z: Sizes, arena: Arena) -> u32
     ensures { λ r. ⌜ r ≡ sizeIn z (arenaOf arena) ⌝ }
 {

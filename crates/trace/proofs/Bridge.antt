@@ -19,11 +19,12 @@ use Rattle.definitions.proofs.Kept.{Inside, inside-lt, lt-inside, inside-closed
 use Rattle.definitions.proofs.Tandem.{Among, visits-among}
 use Rattle.arena.specs.HandleSet.{bases, records, bit, member, room}
 use Rattle.arena.specs.Marks.{Marks}
+use Rattle.arena.specs.Sizes.{sizesOf}
 use Rattle.arena.proofs.Elements.{Below, bit-below, bit-injective}
-use Rattle.trace.specs.Bits.{among, added, bitsOf, Holds, Put, Marked, visitBits, sweepBits, rootIn, countsOf, thoseIn, rootsIn}
+use Rattle.trace.specs.Bits.{among, added, bitsOf, Holds, Put, Marked, visitBits, sweepBits, rootIn, thoseIn, rootsIn}
 
 -- the roots of a module are those among all its records
-pub roots-in : (s : Areas) (keep : Bool) → rootsIn s keep (countsOf s) ≡ roots s keep
+pub roots-in : (s : Areas) (keep : Bool) → rootsIn s keep (sizesOf s) ≡ roots s keep
 unfolding rootsIn thoseIn rootIn roots commonRoots moreRoots those
 roots-in s true = refl
 roots-in s false = refl

@@ -7,13 +7,13 @@ use Prim.Native.Nat.{ℕ}
 use lib.ListN.{length}
 use lib.Dec.{eqb, ltb}
 use Rattle.definitions.specs.Lists.{always, countUp, select}
-use Rattle.definitions.specs.Areas.{Areas, Arena, Elem, at, size, mentionCount}
+use Rattle.definitions.specs.Areas.{Areas, Arena, Elem, at}
 use Rattle.definitions.specs.References.{references}
 use Rattle.definitions.specs.Roots.{mention, isNamed, rootConstant, namedOverride}
 use Rattle.definitions.specs.Order.{withBehind}
 use Rattle.arena.specs.HandleSet.{bit, member, room}
 use Rattle.arena.specs.declared.handle_set.Bases.{Bases}
-use Rattle.trace.specs.declared.roots.Counts.{Counts}
+use Rattle.arena.specs.declared.sizes.Sizes.{Sizes}
 
 -- is the number in the list ?
 unfoldable pub among : List ℕ → ℕ → Bool
@@ -58,23 +58,12 @@ rootIn s Arena.overrides = namedOverride s
 rootIn s Arena.globals = always
 rootIn s Arena.expressions = λ h. false
 
--- how many records the arenas with roots have, and how many mentions there are
-abbrev pub countsOf : Areas → Counts
-countsOf s =
-    record {
-      types = size s Arena.types;
-      constants = size s Arena.constants;
-      overrides = size s Arena.overrides;
-      globals = size s Arena.globals;
-      mentions = mentionCount s;
-    }
-
 -- the roots among the first n records of an arena
 unfoldable pub thoseIn : Areas → Arena → ℕ → List Elem
 thoseIn s a n = map (at a) (select (rootIn s a) (countUp 0 n))
 
--- the roots for a flag, as many as the counts say: `roots`, for those of the module
-unfoldable pub rootsIn : Areas → Bool → Counts → List Elem
+-- the roots for a flag, as many as the sizes say: `roots`, for those of the module
+unfoldable pub rootsIn : Areas → Bool → Sizes → List Elem
 rootsIn s keep n =
     (map (mention s) (countUp 0 (n .mentions)) ++ thoseIn s Arena.constants (n .constants))
     ++ cond keep (thoseIn s Arena.globals (n .globals) ++ thoseIn s Arena.overrides (n .overrides) ++ thoseIn s Arena.types (n .types)) []

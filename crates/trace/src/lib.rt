@@ -23,7 +23,6 @@ use arena::OverrideHandle;
 use arena::TypeHandle;
 use arena::handle_set;
 use arena::handle_set::Bases;
-pub use roots::Counts;
 pub use roots::mark_roots;
 use slots::code;
 

@@ -11,6 +11,7 @@ use arena::ConstantHandle;
 use arena::Mention;
 use arena::Override;
 use arena::OverrideHandle;
+use arena::Sizes;
 use arena::Type;
 use arena::TypeHandle;
 use arena::handle_set::Bases;
@@ -120,21 +121,12 @@ fn mark_mentions<'a>(
     }
 }
 
-// How many of each arena and of the mentions there are.
-pub struct Counts {
-    pub types: u32,
-    pub constants: u32,
-    pub overrides: u32,
-    pub globals: u32,
-    pub mentions: u32,
-}
-
-// Marks the roots; `keep` is true for `KeepUnused::Yes`. The counts say how many of each are looked at.
+// Marks the roots; `keep` is true for `KeepUnused::Yes`. The sizes say how many of each are looked at.
 pub fn mark_roots<'a>(
     marks: &mut [u64],
     b: Bases,
     keep: bool,
-    n: Counts,
+    n: Sizes,
     types: &'a [u32],
     constants: &'a [u32],
     overrides: &'a [u32],

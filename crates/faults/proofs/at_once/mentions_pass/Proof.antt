@@ -6,7 +6,6 @@ use native.Mathlib.Omega.{arith}
 use borrow.Author.Needs.{needs}
 use borrow.Author.Tests.{lt-ltb}
 use Rattle.definitions.specs.Areas.{Areas, areasOf}
-use Rattle.faults.proofs.Arenas.{mentions-le}
 use Rattle.faults.proofs.AtOnce.{not-both, MentionGood, mention-on, mentions-passed}
 use Rattle.faults.proofs.at_once.mentions_pass.Statement.{statement}
 use Rattle.faults.proofs.at_once.mentions_pass.Tie as tie
@@ -21,12 +20,6 @@ abbrev μ-loop : tie.MeasureT-loop
 -- the eight areas
 abbrev Given : tie.Start Inv-loop μ-loop → Areas
 Given d = areasOf (d .args .types .now) (d .args .constants .now) (d .args .overrides .now) (d .args .globals .now) (d .args .expressions .now) (d .args .members .now) (d .args .components .now) (d .args .mentions .now)
-
-count-requires : tie.Need-count-requires Inv-loop μ-loop
-count-requires c κs = search needs
-
-cast-n : tie.Need-cast-n Inv-loop μ-loop
-cast-n c = omega (arith, mentions-le (Given (c .before .before .before .before .before .before .before .before .before)) (c .before .before .before .before .before .before .before .before .before .pre .0) (c .count .ensures))
 
 loop-holds : tie.Need-loop-holds Inv-loop μ-loop
 loop-holds c = λ j l. absurd (not-suc-le-zero l)
@@ -47,17 +40,17 @@ returns-2 : tie.Need-returns-2 Inv-loop μ-loop
 returns-2 c e = absurd (not-both e)
 
 add-i : tie.Need-add-i Inv-loop μ-loop
-add-i c = omega (arith, mentions-le (Given (c .before .before .before .before .before .before .before .before .before .before .before .before .before .before .before .before)) (c .before .before .before .before .before .before .before .before .before .before .before .before .before .before .before .before .pre .0) (c .before .before .before .before .before .before .before .count .ensures))
+add-i c = omega arith
 
 loop-less : tie.Need-loop-less Inv-loop μ-loop
 loop-less c = omega arith
 
 loop-again : tie.Need-loop-again Inv-loop μ-loop
 loop-again c =
-    mention-on (Given (c .before .before .before .before .before .before .before .before .before .before .before .before .before .before .before .before)) (c .before .before .before .before .before .before .loop .i) (c .before .before .before .before .before .before .loop .inv) (c .before .before .before .before .area .ensures) (c .before .handle .ensures) (c .before .before .before .before .before .before .before .before .before .before .before .before .before .before .before .before .pre .1) (c .before .before .own-size .ensures) (lt-ltb _ 5 (c .before .before .before .if1 .left)) (lt-ltb _ _ (c .if2 .left))
+    mention-on (Given (c .before .before .before .before .before .before .before .before .before .before .before .before .before .before .before)) (c .before .before .before .before .before .before .loop .i) (c .before .before .before .before .before .before .loop .inv) (c .before .before .before .before .area .ensures) (c .before .handle .ensures) (c .before .before .before .before .before .before .before .before .before .before .before .before .before .before .before .pre .1) (c .before .before .own-size .ensures) (lt-ltb _ 5 (c .before .before .before .if1 .left)) (lt-ltb _ _ (c .if2 .left))
 
 returns-3 : tie.Need-returns-3 Inv-loop μ-loop
-returns-3 c e = mentions-passed (Given (c .before .before .before .before .before .before .before .before .before .before .before)) (c .before .loop .i) (c .before .before .count .ensures) (c .loop-test .left) (c .before .loop .inv)
+returns-3 c e = mentions-passed (Given (c .before .before .before .before .before .before .before .before .before .before)) (c .before .loop .i) (c .before .before .before .before .before .before .before .before .before .before .pre .1) (c .loop-test .left) (c .before .loop .inv)
 
 pub mentions-pass-spec : {M : Type 1} → statement M
 mentions-pass-spec =
@@ -65,8 +58,6 @@ mentions-pass-spec =
     (tie.spec
     Inv-loop
     μ-loop
-    count-requires
-    cast-n
     loop-holds
     area-requires
     returns

@@ -1,13 +1,16 @@
 -- `at_once::passes` meets its contract. The loop carries that all arenas so far pass.
 -- Assumes nothing.
-use mathlib.Core.Path.{subst, sym}
+use mathlib.Core.Path.{_≡_, subst, sym}
 use Prim.Native.Nat.{ℕ, _+_, _-_, _<_}
 use native.Mathlib.Decide.{ℕ-discrete}
 use native.Mathlib.Nat.{not-suc-le-zero}
 use native.Mathlib.Omega.{arith}
+use borrow.Author.Needs.{needs}
 use borrow.Author.Tests.{not-false}
 use Rattle.definitions.specs.Areas.{Areas, areasOf, numbered}
+use Rattle.arena.specs.Sizes.{sizesOf}
 use Rattle.faults.specs.Checking.{Passed, Used}
+use Rattle.faults.proofs.Arenas.{sizes-are}
 use Rattle.faults.proofs.AtOnce.{not-both, no-fault}
 use Rattle.faults.proofs.at_once.passes.Statement.{statement}
 use Rattle.faults.proofs.at_once.passes.Tie as tie
@@ -34,14 +37,18 @@ abbrev μ-loop : tie.MeasureT-loop
 abbrev Given : tie.Start Inv-loop μ-loop → Areas
 Given d = areasOf (d .args .types .now) (d .args .constants .now) (d .args .overrides .now) (d .args .globals .now) (d .args .expressions .now) (d .args .members .now) (d .args .components .now) (d .args .mentions .now)
 
-sizes-requires : tie.Need-sizes-requires Inv-loop μ-loop
-sizes-requires c κs = c .before .before .before .before .before .before .before .before .pre
+-- the sizes that were counted are the module's
+sizes : (c : tie.After-of Inv-loop μ-loop) → c .of .result ≡ sizesOf (Given (c .before .before .before .before .before .before .before .before .before))
+sizes c = let d = c .before .before .before .before .before .before .before .before .before in sizes-are (Given d) (d .pre) (c .of .ensures)
+
+of-requires : tie.Need-of-requires Inv-loop μ-loop
+of-requires c κs = search needs
 
 loop-holds : tie.Need-loop-holds Inv-loop μ-loop
 loop-holds c = λ a l. absurd (not-suc-le-zero l)
 
 arena-passes-requires : tie.Need-arena-passes-requires Inv-loop μ-loop
-arena-passes-requires c κs = (c .loop-test .taken, (c .before .before .before .before .before .before .before .before .before .before .before .pre, c .before .before .sizes .ensures))
+arena-passes-requires c κs = (c .loop-test .taken, (c .before .before .before .before .before .before .before .before .before .before .before .pre, sizes (c .before .before)))
 
 returns : tie.Need-returns Inv-loop μ-loop
 returns c e = absurd (not-both e)
@@ -56,7 +63,7 @@ loop-again : tie.Need-loop-again Inv-loop μ-loop
 loop-again c = more (Given (c .before .before .before .before .before .before .before .before .before .before .before .before .before)) (c .before .before .before .loop .area) (c .before .before .before .loop .inv) (c .before .arena-passes .ensures (not-false _ (c .if1 .left)))
 
 mentions-pass-requires : tie.Need-mentions-pass-requires Inv-loop μ-loop
-mentions-pass-requires c κs = (c .before .before .before .before .before .before .before .before .before .before .before .pre, c .before .before .sizes .ensures)
+mentions-pass-requires c κs = (c .before .before .before .before .before .before .before .before .before .before .before .pre, sizes (c .before .before))
 
 returns-2 : tie.Need-returns-2 Inv-loop μ-loop
 returns-2 c e = no-fault (Given (c .before .before .before .before .before .before .before .before .before .before .before .before)) (λ a l. c .before .before .loop .inv a (omega arith)) (c .mentions-pass .ensures e)
@@ -67,7 +74,7 @@ passes-spec =
     (tie.spec
     Inv-loop
     μ-loop
-    sizes-requires
+    of-requires
     loop-holds
     arena-passes-requires
     returns

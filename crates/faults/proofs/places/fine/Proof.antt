@@ -4,8 +4,8 @@ use mathlib.Core.Path.{_≡_, subst}
 use Prim.Native.Nat.{_≤_, _<_}
 use native.Mathlib.Omega.{arith}
 use borrow.Author.Needs.{needs}
-use Rattle.definitions.specs.Areas.{Areas, areasOf, mentionCount}
-use Rattle.rules.specs.Rules.{sizesOf}
+use Rattle.definitions.specs.Areas.{Areas, areasOf}
+use Rattle.arena.specs.Sizes.{sizesOf}
 use Rattle.faults.specs.Checking.{okAt, placesIn}
 use Rattle.faults.proofs.Tests.{looks-there, pool-four, mention-four-six, members-used, components-used}
 use Rattle.faults.proofs.places.fine.Statement.{statement}
@@ -16,7 +16,7 @@ abbrev Given : tie.Start → Areas
 Given d = areasOf (d .args .types .now) (d .args .constants .now) (d .args .overrides .now) (d .args .globals .now) (d .args .expressions .now) (d .args .members .now) (d .args .components .now) (d .args .mentions .now)
 
 -- the place is one of the area's
-there : (d : tie.Start) → d .args .i < placesIn (sizesOf (Given d)) (mentionCount (Given d)) (d .args .number) (d .args .area)
+there : (d : tie.Start) → d .args .i < placesIn (sizesOf (Given d)) (d .args .number) (d .args .area)
 there d = d .pre .1 .1 .1 .1 .1
 
 -- the last arm is the mentions
@@ -39,7 +39,7 @@ record-fine-requires c κs =
           d .pre .1 .1 .0,
           (
             d .pre .1 .1 .1 .0,
-            (c .if1 .taken, looks-there (sizesOf (Given d)) (mentionCount (Given d)) (d .args .number) (d .args .area) (there d) (c .if1 .taken)),
+            (c .if1 .taken, looks-there (sizesOf (Given d)) (d .args .number) (d .args .area) (there d) (c .if1 .taken)),
           ),
         ),
       ),
@@ -48,20 +48,20 @@ record-fine-requires c κs =
 mention-fine-requires : tie.Need-mention-fine-requires
 mention-fine-requires c κs =
     let d = c .before .before .before .before .before .before .before .before .before .before in
-    (d .pre .1 .1 .0, mention-four-six (sizesOf (Given d)) (mentionCount (Given d)) (d .args .number) (d .args .area) (there d) (past c))
+    (d .pre .1 .1 .0, mention-four-six (sizesOf (Given d)) (d .args .number) (d .args .area) (there d) (past c))
 
 returns : tie.Need-returns
 returns c =
     let d = c .before .before .before .before .before .before .before .before .before .before in
     members-used (Given d) (d .args .number) (d .args .area) (d .args .i) (d .args .z) (d .pre .1 .1 .0)
-    (pool-four (sizesOf (Given d)) (mentionCount (Given d)) (d .args .number) (d .args .area) (there d) (omega arith) (omega arith))
+    (pool-four (sizesOf (Given d)) (d .args .number) (d .args .area) (there d) (omega arith) (omega arith))
     (c .before .match .keys1) (c .pool-used .ensures)
 
 returns-2 : tie.Need-returns-2
 returns-2 c =
     let d = c .before .before .before .before .before .before .before .before .before .before in
     components-used (Given d) (d .args .number) (d .args .area) (d .args .i) (d .args .z) (d .pre .1 .1 .0)
-    (pool-four (sizesOf (Given d)) (mentionCount (Given d)) (d .args .number) (d .args .area) (there d) (omega arith) (omega arith))
+    (pool-four (sizesOf (Given d)) (d .args .number) (d .args .area) (there d) (omega arith) (omega arith))
     (c .before .match .keys2) (c .pool-used2 .ensures)
 
 returns-3 : tie.Need-returns-3

@@ -8,14 +8,14 @@ use Rattle.definitions.specs.Lists.{countUp}
 use Rattle.definitions.specs.Areas.{Areas, areasOf, types, constants, overrides, globals, numbered}
 use Rattle.definitions.specs.Roots.{mention}
 use Rattle.arena.specs.declared.handle_set.Bases.{Bases}
-use Rattle.trace.specs.declared.roots.Counts.{Counts}
+use Rattle.arena.specs.declared.sizes.Sizes.{Sizes}
 use Rattle.trace.specs.Bits.{Marked, thoseIn, rootsIn}
 use Rattle.trace.proofs.Behind.{marked-as, marked-none, marked-more}
 use borrow.Author.Needs.{needs}
 use Rattle.trace.proofs.roots.mark_roots.Statement.{statement}
 use Rattle.trace.proofs.roots.mark_roots.Tie as tie
 
-module _ (s : Areas) (b : Bases) (n : Counts) {v w u : List ℕ}
+module _ (s : Areas) (b : Bases) (n : Sizes) {v w u : List ℕ}
     (m : Marked s b (map (mention s) (countUp 0 (n .mentions))) v w) (c : Marked s b (thoseIn s constants (n .constants)) w u)
   where
     with-no : {keep : Bool} → keep ≡ false → Marked s b (rootsIn s keep n) v u
