@@ -43,7 +43,7 @@ within at h w len e l =
     let q : len / w * w ≤ len = div-mul-le-self len w in
     omega (arith, suc-mul h w)
 
-length-record : (p : Maps) (b : ℕ) (f : ℕ → ℕ) (k : ℕ) (ls : List Slot) → length (recordFrom p b f k ls) ≡ length ls
+pub length-record : (p : Maps) (b : ℕ) (f : ℕ → ℕ) (k : ℕ) (ls : List Slot) → length (recordFrom p b f k ls) ≡ length ls
 unfolding recordFrom
 length-record p b f k [] = refl
 length-record p b f k (l ∷ ls) = ap suc (length-record p b f (suc k) ls)
@@ -241,12 +241,12 @@ module _ (p : Maps) (old : Words) where
     unfolding mentionBy
     mention-is = rw (r .even, add-zero at)
 
-    pub mention-renamed : (own : Words) (v : ℕ) → own ≡ mapOf p (numbered (getD new at 0)) → v ≡ lookup own (getD new (at + 1) 0) → Renaming (set new (at + 1) v) (at + 2)
+    pub mention-renamed : (a : Arena) (v : ℕ) → a ≡ numbered (getD new (at + 0) 0) → v ≡ lookup (mapOf p a) (getD new (at + 1) 0) → Renaming (set new (at + 1) v) (at + 2)
     unfolding gather
-    mention-renamed own v mine e =
+    mention-renamed a v its e =
         let n : (at + 2) / 2 ≡ suc (at / 2) = omega arith in
         let q : v ≡ lookup (mapOf p (numbered (getD old at 0))) (getD old (at + 1) 0) =
-        e ∙ ap₂ lookup (mine ∙ ap (λ x. mapOf p (numbered x)) (rw add-zero at (read 0))) (read 1) in
+        e ∙ ap₂ (λ x h. lookup (mapOf p x) h) (its ∙ ap numbered (read 0 ∙ ap (λ i. getD old i 0) (add-zero at))) (read 1) in
         record {
           same = length-set new (at + 1) v ∙ r .same;
           even = omega (arith, r .even);

@@ -6,7 +6,9 @@ use Prim.Native.Nat.{ℕ, suc, _+_, _*_, _/_, min}
 use lib.ListN.{length, getD, take, drop}
 use lib.Dec.{eqb}
 use Rattle.definitions.specs.Lists.{total, gather, always}
-use Rattle.definitions.specs.Areas.{Words, N, Arena, numbered, width, wordOf, mentionWidth}
+use denote.Ref.{RefT}
+use denote.Triple.Both.{Both}
+use Rattle.definitions.specs.Areas.{Words, N, Arena, Elem, at, numbered, width, wordOf, mentionWidth}
 use Rattle.definitions.specs.Slots.{Slot, unused, free, below, must, may, start, count, slots}
 use Rattle.definitions.specs.Records.{padded}
 use Rattle.definitions.specs.Outcome.{Maps, mapOf}
@@ -16,6 +18,17 @@ use Rattle.slots.specs.Codes.{spanIn}
 -- the five maps, in order
 abbrev pub mapsOf : Words → Words → Words → Words → Words → Maps
 mapsOf t c o g e = record { types = t; constants = c; overrides = o; globals = g; expressions = e }
+
+-- a slice that an `ensures` speaks of, and the five maps as they were lent
+abbrev Lent : Type 0
+Lent = Both (RefT Words) (RefT Words)
+
+abbrev pub mapsIn : Lent → Lent → Lent → Lent → Lent → Maps
+mapsIn t c o g e = mapsOf (t .entry .now) (c .entry .now) (o .entry .now) (g .entry .now) (e .entry .now)
+
+-- an element by the map of its arena
+unfoldable pub elementBy : Maps → Elem → Elem
+elementBy p (at a h) = at a (lookup (mapOf p a) h)
 
 -- is record h kept ? Its word in the map is other than N
 unfoldable pub keptBy : Words → ℕ → Bool
@@ -35,9 +48,9 @@ adjustedBy p b count w = w
 unfoldable pub initBy : Bool → Words → ℕ → ℕ
 initBy due own w = cond (cond due false (eqb w N)) N (lookup own w)
 
--- a type at word k, the init and the tag after it, adjusted
+-- a type at word k and the init after it, adjusted
 unfoldable pub typedBy : Bool → Words → Words → (ℕ → ℕ) → ℕ → Words
-typedBy due t e f k = lookup t (f k) ∷ initBy due e (f (suc k)) ∷ f (suc (suc k)) ∷ []
+typedBy due t e f k = lookup t (f k) ∷ initBy due e (f (suc k)) ∷ []
 
 -- the words of a record from word k on, adjusted
 unfoldable pub recordFrom : Maps → ℕ → (ℕ → ℕ) → ℕ → List Slot → Words

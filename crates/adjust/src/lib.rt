@@ -1,16 +1,25 @@
 // Rewriting by the maps: records, pools and mentions in place, what was kept closed up, then N to the old end.
 ghost use mathlib.Core.Path.{_≡_};
 ghost use mathlib.Core.List.{_∷_, _++_, map};
-ghost use Prim.Native.Nat.{_+_, _≤_, _<_, min};
-ghost use lib.ListN.{length, take, drop, replicate};
+ghost use Prim.Native.Nat.{_+_, _≤_, _<_};
+ghost use lib.ListN.{length, getD, take, drop, set, replicate};
 ghost use lib.Seq.{sets};
 ghost use Rattle.definitions.specs.Areas.{N, numbered, width};
-ghost use Rattle.definitions.specs.Slots.{tag, slots};
+ghost use Rattle.definitions.specs.Slots.{body, slots};
 ghost use Rattle.definitions.specs.Outcome.{mapOf};
 ghost use Rattle.definitions.specs.MapEntries.{lookup};
 ghost use Rattle.slots.specs.Codes.{arenaOf, slotOf, unpacked, wordsFrom};
-ghost use Rattle.adjust.specs.Rewrite.{mapsOf, keptBy, adjustedBy, recordFrom, initBy, typedBy, arenaBy, poolBy, runsBy, mentionsBy};
+ghost use Rattle.adjust.specs.Rewrite.{mapsOf, mapsIn, keptBy, adjustedBy, recordFrom, initBy, typedBy, arenaBy, poolBy, runsBy, mentionsBy};
+
+mod handles;
+
+use arena::Constant;
+use arena::ExpressionHandle;
+use arena::Global;
+use arena::Mention;
 use arena::N;
+use arena::TAIL;
+use arena::TypeHandle;
 use slots::Arena;
 use slots::Slot;
 
@@ -23,7 +32,8 @@ fn map_of<'a>(
     global_map: &'a [u32],
     expression_map: &'a [u32],
 ) -> &'a [u32]
-    ensures { λ r. ⌜ now r ≡ mapOf (mapsOf (now («type_map» .entry)) (now («constant_map» .entry)) (now («override_map» .entry)) (now («global_map» .entry)) (now («expression_map» .entry))) (arenaOf arena) ⌝ }
+    ensures { λ r. ⌜ now r ≡
+        mapOf (mapsIn «type_map» «constant_map» «override_map» «global_map» «expression_map») (arenaOf arena) ⌝ }
 {
     match arena {
         Arena::Types => type_map,
@@ -45,34 +55,31 @@ fn adjust_slot<'a>(
     global_map: &'a [u32],
     expression_map: &'a [u32],
 ) -> u32
-    ensures { λ r. ⌜ r ≡ adjustedBy (mapsOf (now («type_map» .entry)) (now («constant_map» .entry)) (now («override_map» .entry)) (now («global_map» .entry)) (now («expression_map» .entry))) start (slotOf slot) w ⌝ }
+    ensures { λ r. ⌜ r ≡
+        adjustedBy (mapsIn «type_map» «constant_map» «override_map» «global_map» «expression_map») start (slotOf slot) w ⌝ }
 {
     match slot {
-        Slot::Must(arena) => handle_map::lookup(
-            map_of(
-                arena,
-                type_map,
-                constant_map,
-                override_map,
-                global_map,
-                expression_map,
-            ),
+        Slot::Must(arena) => handles::word_after(
+            arena,
             w,
+            type_map,
+            constant_map,
+            override_map,
+            global_map,
+            expression_map,
         ),
         Slot::May(arena) => {
             if w == N {
                 return N;
             }
-            handle_map::lookup(
-                map_of(
-                    arena,
-                    type_map,
-                    constant_map,
-                    override_map,
-                    global_map,
-                    expression_map,
-                ),
+            handles::word_after(
+                arena,
                 w,
+                type_map,
+                constant_map,
+                override_map,
+                global_map,
+                expression_map,
             )
         }
         Slot::Start => start,
@@ -80,7 +87,7 @@ fn adjust_slot<'a>(
     }
 }
 
-// The record at `from`, of n words and a tag, is written, adjusted, at `to`, which is no later.
+// The n words at `from`, whose slots the shape has, are written, adjusted, at `to`, which is no later.
 fn adjust_record<'a>(
     ws: &mut [u32],
     from: usize,
@@ -94,8 +101,11 @@ fn adjust_record<'a>(
     global_map: &'a [u32],
     expression_map: &'a [u32],
 )
-    requires { ⌜ (to ≤ from) × (from + n < length (now ws)) ⌝ }
-    ensures { λ _. ⌜ now (ws .exit) ≡ sets (now (ws .entry)) to (recordFrom (mapsOf (now («type_map» .entry)) (now («constant_map» .entry)) (now («override_map» .entry)) (now («global_map» .entry)) (now («expression_map» .entry))) start (wordsFrom (now (ws .entry)) from) 0 (unpacked shape n ++ tag)) ⌝ }
+    requires { ⌜ (to ≤ from) × (from + n ≤ length (now ws)) ⌝ }
+    ensures { λ _. ⌜ now (ws .exit) ≡
+        sets (now (ws .entry)) to
+        (recordFrom (mapsIn «type_map» «constant_map» «override_map» «global_map» «expression_map») start
+        (wordsFrom (now (ws .entry)) from) 0 (unpacked shape n)) ⌝ }
 {
     let mut rest = shape;
     let mut k = 0;
@@ -113,23 +123,21 @@ fn adjust_record<'a>(
         rest = rest / 16;
         k += 1;
     }
-    let tag = ws[from + n];
-    ws[to + n] = tag;
 }
 
 // An init adjusted. Unless it must be there it may be N.
-fn adjust_init(must: bool, init: u32, map: &[u32]) -> u32
-    ensures { λ r. ⌜ r ≡ initBy must (now (map .entry)) init ⌝ }
+fn adjust_init(must: bool, init: ExpressionHandle, expression_map: &[u32]) -> ExpressionHandle
+    ensures { λ r. ⌜ r .0 ≡ initBy must (now («expression_map» .entry)) (init .0) ⌝ }
 {
-    if init == N {
+    if init.0 == N {
         if !must {
-            return N;
+            return init;
         }
     }
-    handle_map::lookup(map, init)
+    handles::expression_after(expression_map, init)
 }
 
-// The type at `from`, the init and the tag after it are written, adjusted, at `to`, which is no later.
+// The type and the init at `from`, as a global has them, are written, adjusted, at `to`, which is no later.
 fn adjust_typed(
     ws: &mut [u32],
     from: usize,
@@ -138,18 +146,18 @@ fn adjust_typed(
     type_map: &[u32],
     expression_map: &[u32],
 )
-    requires { ⌜ (to ≤ from) × (from + 2 < length (now ws)) ⌝ }
-    ensures { λ _. ⌜ now (ws .exit) ≡ sets (now (ws .entry)) to (typedBy must (now («type_map» .entry)) (now («expression_map» .entry)) (wordsFrom (now (ws .entry)) from) 0) ⌝ }
+    requires { ⌜ (to ≤ from) × (from + 1 < length (now ws)) ⌝ }
+    ensures { λ _. ⌜ now (ws .exit) ≡
+        sets (now (ws .entry)) to
+        (typedBy must (now («type_map» .entry)) (now («expression_map» .entry)) (wordsFrom (now (ws .entry)) from) 0) ⌝ }
 {
-    let ty = ws[from];
-    let init = ws[from + 1];
-    let tag = ws[from + 2];
-    ws[to] = handle_map::lookup(type_map, ty);
-    ws[to + 1] = adjust_init(must, init, expression_map);
-    ws[to + 2] = tag;
+    let ty = TypeHandle(ws[from + Global::TYPE]);
+    let init = ExpressionHandle(ws[from + Global::INIT]);
+    ws[to + Global::TYPE] = handles::type_after(type_map, ty).0;
+    ws[to + Global::INIT] = adjust_init(must, init, expression_map).0;
 }
 
-// As `adjust_typed`, with a flag before the type, which stays.
+// As `adjust_typed`, past a flag, which stays: a constant or an override, whose words lie alike.
 fn adjust_named(
     ws: &mut [u32],
     from: usize,
@@ -158,15 +166,78 @@ fn adjust_named(
     type_map: &[u32],
     expression_map: &[u32],
 )
-    requires { ⌜ (to ≤ from) × (from + 3 < length (now ws)) ⌝ }
-    ensures { λ _. ⌜ now (ws .exit) ≡ sets (now (ws .entry)) to (wordsFrom (now (ws .entry)) from 0 ∷ typedBy must (now («type_map» .entry)) (now («expression_map» .entry)) (wordsFrom (now (ws .entry)) from) 1) ⌝ }
+    requires { ⌜ (to ≤ from) × (from + 2 < length (now ws)) ⌝ }
+    ensures { λ _. ⌜ now (ws .exit) ≡
+        sets (now (ws .entry)) to
+        (wordsFrom (now (ws .entry)) from 0
+        ∷ typedBy must (now («type_map» .entry)) (now («expression_map» .entry)) (wordsFrom (now (ws .entry)) from) 1) ⌝ }
 {
-    let flag = ws[from];
-    ws[to] = flag;
-    adjust_typed(ws, from + 1, to + 1, must, type_map, expression_map);
+    let flag = ws[from + Constant::NAMED];
+    ws[to + Constant::NAMED] = flag;
+    adjust_typed(
+        ws,
+        from + Constant::TYPE,
+        to + Constant::TYPE,
+        must,
+        type_map,
+        expression_map,
+    );
 }
 
-// The record at `from`, of an area whose records have `wide` words, is written, adjusted, at `to`, which is no later. Three areas have one shape each.
+// The n words that stand before the tail of the area's record at `from` are written, adjusted, at `to`, which is no later.
+// Three areas have one shape each.
+fn adjust_body<'a>(
+    area: u32,
+    ws: &mut [u32],
+    from: usize,
+    to: usize,
+    n: usize,
+    start: u32,
+    type_map: &'a [u32],
+    constant_map: &'a [u32],
+    override_map: &'a [u32],
+    global_map: &'a [u32],
+    expression_map: &'a [u32],
+)
+    requires { ⌜ (to ≤ from) × (from + n ≤ length (now ws)) × (n + 1 ≡ width (numbered area)) ⌝ }
+    ensures { λ _. ⌜ now (ws .exit) ≡
+        sets (now (ws .entry)) to
+        (recordFrom (mapsIn «type_map» «constant_map» «override_map» «global_map» «expression_map») start
+        (wordsFrom (now (ws .entry)) from) 0 (body (numbered area) (wordsFrom (now (ws .entry)) from))) ⌝ }
+{
+    match area {
+        1 => adjust_named(ws, from, to, true, type_map, expression_map),
+        2 => adjust_named(ws, from, to, false, type_map, expression_map),
+        3 => adjust_typed(ws, from, to, false, type_map, expression_map),
+        _ => {
+            let shape = slots::shape(area, ws, from);
+            adjust_record(
+                ws,
+                from,
+                to,
+                n,
+                shape,
+                start,
+                type_map,
+                constant_map,
+                override_map,
+                global_map,
+                expression_map,
+            )
+        }
+    }
+}
+
+// A record's tail, which stays: that at `from` is written at `to`.
+fn carry_tail(ws: &mut [u32], from: usize, to: usize)
+    requires { ⌜ (to ≤ from) × (from < length (now ws)) ⌝ }
+    ensures { λ _. ⌜ now (ws .exit) ≡ set (now (ws .entry)) to (getD (now (ws .entry)) from 0) ⌝ }
+{
+    let tag = ws[from];
+    ws[to] = tag;
+}
+
+// The record at `from`, of an area whose records have `wide` words, is written, adjusted, at `to`, which is no later.
 fn adjust_kept<'a>(
     area: u32,
     ws: &mut [u32],
@@ -181,29 +252,26 @@ fn adjust_kept<'a>(
     expression_map: &'a [u32],
 )
     requires { ⌜ (to ≤ from) × (from + wide ≤ length (now ws)) × (wide ≡ width (numbered area)) ⌝ }
-    ensures { λ _. ⌜ now (ws .exit) ≡ sets (now (ws .entry)) to (recordFrom (mapsOf (now («type_map» .entry)) (now («constant_map» .entry)) (now («override_map» .entry)) (now («global_map» .entry)) (now («expression_map» .entry))) start (wordsFrom (now (ws .entry)) from) 0 (slots (numbered area) (wordsFrom (now (ws .entry)) from))) ⌝ }
+    ensures { λ _. ⌜ now (ws .exit) ≡
+        sets (now (ws .entry)) to
+        (recordFrom (mapsIn «type_map» «constant_map» «override_map» «global_map» «expression_map») start
+        (wordsFrom (now (ws .entry)) from) 0 (slots (numbered area) (wordsFrom (now (ws .entry)) from))) ⌝ }
 {
-    match area {
-        1 => adjust_named(ws, from, to, true, type_map, expression_map),
-        2 => adjust_named(ws, from, to, false, type_map, expression_map),
-        3 => adjust_typed(ws, from, to, false, type_map, expression_map),
-        _ => {
-            let shape = slots::shape(area, ws, from);
-            adjust_record(
-                ws,
-                from,
-                to,
-                wide - 1,
-                shape,
-                start,
-                type_map,
-                constant_map,
-                override_map,
-                global_map,
-                expression_map,
-            )
-        }
-    }
+    let n = wide - TAIL;
+    adjust_body(
+        area,
+        ws,
+        from,
+        to,
+        n,
+        start,
+        type_map,
+        constant_map,
+        override_map,
+        global_map,
+        expression_map,
+    );
+    carry_tail(ws, from + n, to + n);
 }
 
 // N in every word.
@@ -215,16 +283,6 @@ fn fill(ws: &mut [u32])
         ws[i] = N;
         i += 1;
     }
-}
-
-// A sum of words, as far as a word goes.
-fn capped(a: u32, b: u32) -> u32
-    ensures { λ r. ⌜ r ≡ min (a + b) N ⌝ }
-{
-    if b <= N - a {
-        return a + b;
-    }
-    N
 }
 
 // Whether the map keeps record h: past the map's end nothing is kept.
@@ -279,7 +337,7 @@ pub fn adjust_arena<'a>(
                 global_map,
                 expression_map,
             );
-            start = capped(start, span);
+            start = arena::capped(start, span);
             to += width;
         }
         from += width;
@@ -288,14 +346,25 @@ pub fn adjust_arena<'a>(
     fill(&mut ws[to..]);
 }
 
-// The n words at `from` are written, adjusted, at `to`, which is no later.
-fn adjust_run(pool: &mut [u32], from: usize, to: usize, n: usize, own: &[u32])
+// A word of a run adjusted: a type's members are types, an expression's components expressions.
+fn run_word(area: u32, w: u32, own: &[u32]) -> u32
+    ensures { λ r. ⌜ r ≡ lookup (now (own .entry)) w ⌝ }
+{
+    match area {
+        0 => handles::type_after(own, TypeHandle(w)).0,
+        _ => handles::expression_after(own, ExpressionHandle(w)).0,
+    }
+}
+
+// The n words of the area's pool at `from` are written, adjusted, at `to`, which is no later.
+fn adjust_run(area: u32, pool: &mut [u32], from: usize, to: usize, n: usize, own: &[u32])
     requires { ⌜ (to ≤ from) × (from + n ≤ length (now pool)) ⌝ }
-    ensures { λ _. ⌜ now (pool .exit) ≡ sets (now (pool .entry)) to (map (lookup (now (own .entry))) (take n (drop from (now (pool .entry))))) ⌝ }
+    ensures { λ _. ⌜ now (pool .exit) ≡
+        sets (now (pool .entry)) to (map (lookup (now (own .entry))) (take n (drop from (now (pool .entry))))) ⌝ }
 {
     let mut k = 0;
     while k < n {
-        pool[to + k] = handle_map::lookup(own, pool[from + k]);
+        pool[to + k] = run_word(area, pool[from + k], own);
         k += 1;
     }
 }
@@ -316,7 +385,7 @@ pub fn adjust_pool(area: u32, ws: &[u32], pool: &mut [u32], own: &[u32]) -> usiz
             span = pool.len() - from;
         }
         if span != 0 && kept_at(own, h) {
-            adjust_run(pool, from, to, span, own);
+            adjust_run(area, pool, from, to, span, own);
             to += span;
         }
         from += span;
@@ -339,21 +408,19 @@ pub fn adjust_mentions<'a>(
     ensures { λ _. ⌜ now (mentions .exit) ≡ mentionsBy (mapsOf (now («type_map» .entry)) (now («constant_map» .entry)) (now («override_map» .entry)) (now («global_map» .entry)) (now («expression_map» .entry))) (now (mentions .entry)) ⌝ }
 {
     let mut at = 0;
-    while 1 < mentions.len() - at {
-        let area = mentions[at];
-        let place = at + 1;
+    while Mention::WIDTH <= mentions.len() - at {
+        let area = mentions[at + Mention::AREA];
+        let place = at + Mention::HANDLE;
         let h = mentions[place];
-        mentions[place] = handle_map::lookup(
-            map_of(
-                slots::arena_at(area),
-                type_map,
-                constant_map,
-                override_map,
-                global_map,
-                expression_map,
-            ),
+        mentions[place] = handles::word_after(
+            slots::arena_at(area),
             h,
+            type_map,
+            constant_map,
+            override_map,
+            global_map,
+            expression_map,
         );
-        at += 2;
+        at += Mention::WIDTH;
     }
 }

@@ -1,12 +1,11 @@
 // The set of marked elements: one bit for each, 64 to a word, the arenas one after another.
 ghost use mathlib.Core.Path.{_≡_};
 ghost use mathlib.Core.Bool.{cond};
-ghost use Prim.Native.Nat.{_+_, min};
-ghost use Rattle.definitions.specs.Areas.{N};
+ghost use Prim.Native.Nat.{_+_};
 ghost use Rattle.arena.specs.Elements.{elementOf};
 ghost use Rattle.arena.specs.HandleSet.{basesOf, bit, member, Inserted, Cleared};
 use crate::Element;
-use crate::N;
+use crate::capped;
 
 // Where the bits of each arena begin, those of types beginning at 0, and where the last arena's end.
 pub struct Bases {
@@ -15,16 +14,6 @@ pub struct Bases {
     pub globals: u32,
     pub expressions: u32,
     pub end: u32,
-}
-
-// A sum that stays a word.
-fn capped(a: u32, b: u32) -> u32
-    ensures { λ r. ⌜ r ≡ min (a + b) N ⌝ }
-{
-    if b <= N - a {
-        return a + b;
-    }
-    N
 }
 
 impl Bases {

@@ -1,4 +1,7 @@
 // What every later crate says of a module's elements: handles, records, and the set of marked elements.
+ghost use mathlib.Core.Path.{_≡_};
+ghost use Rattle.arena.specs.Elements.{elementOf, handleOf};
+
 pub mod handle_set;
 mod records;
 mod sizes;
@@ -9,9 +12,9 @@ pub use records::Global;
 pub use records::Mention;
 pub use records::N;
 pub use records::Override;
-pub use records::POOL_LIMIT;
-pub use records::POOL_WIDTH;
+pub use records::TAIL;
 pub use records::Type;
+pub use records::capped;
 pub use records::limit;
 pub use records::width;
 pub use sizes::Sizes;
@@ -34,4 +37,19 @@ pub enum Element {
     Override(OverrideHandle),
     Global(GlobalHandle),
     Expression(ExpressionHandle),
+}
+
+impl Element {
+    // Its handle, as a word.
+    pub fn word(self) -> u32
+        ensures { λ r. ⌜ r ≡ handleOf (elementOf self) ⌝ }
+    {
+        match self {
+            Element::Type(h) => h.0,
+            Element::Constant(h) => h.0,
+            Element::Override(h) => h.0,
+            Element::Global(h) => h.0,
+            Element::Expression(h) => h.0,
+        }
+    }
 }

@@ -1,6 +1,6 @@
 // The areas' records. Each kind carries its width, its limit, the places of its words, its empty record and its readers.
 ghost use mathlib.Core.Path.{_≡_};
-ghost use Prim.Native.Nat.{_+_, _*_, _/_, _<_};
+ghost use Prim.Native.Nat.{_+_, _*_, _/_, _<_, min};
 ghost use lib.ListN.{length, getD, replicate};
 ghost use Rattle.definitions.specs.Areas.{N, Arena, width, widths, limits, wordOf, mentionWidth};
 use crate::ConstantHandle;
@@ -12,10 +12,13 @@ use crate::TypeHandle;
 // "no handle"
 pub const N: u32 = 4294967295;
 
-// A pool's record is one handle.
-pub const POOL_WIDTH: usize = 1;
+// How many words end each arena's record after those that its kind rules: the tag.
+pub const TAIL: usize = 1;
 
-pub const POOL_LIMIT: usize = 16384;
+// A pool's record is one handle.
+const POOL_WIDTH: usize = 1;
+
+const POOL_LIMIT: usize = 16384;
 
 // Areas 0 to 7.
 const WIDTHS: [usize; 8] = [
@@ -60,6 +63,16 @@ pub fn limit(area: usize) -> usize
     0
 }
 
+// A sum of words, as far as a word goes.
+pub fn capped(a: u32, b: u32) -> u32
+    ensures { λ r. ⌜ r ≡ min (a + b) N ⌝ }
+{
+    if b <= N - a {
+        return a + b;
+    }
+    N
+}
+
 // Word i of an area; 0 past its end.
 fn word(area: &[u32], i: usize) -> u32
     ensures { λ r. ⌜ r ≡ getD (now (area .entry)) i 0 ⌝ }
@@ -85,8 +98,6 @@ impl Type {
     pub const A: usize = 2;
 
     pub const B: usize = 3;
-
-    pub const TAG: usize = 4;
 
     pub fn empty() -> [u32; Type::WIDTH]
         ensures { λ r. ⌜ r ≡ replicate (width Arena.types) N ⌝ }
@@ -147,8 +158,6 @@ impl Constant {
 
     pub const INIT: usize = 2;
 
-    pub const TAG: usize = 3;
-
     pub fn empty() -> [u32; Constant::WIDTH]
         ensures { λ r. ⌜ r ≡ replicate (width Arena.constants) N ⌝ }
     {
@@ -202,8 +211,6 @@ impl Override {
 
     pub const INIT: usize = 2;
 
-    pub const TAG: usize = 3;
-
     pub fn empty() -> [u32; Override::WIDTH]
         ensures { λ r. ⌜ r ≡ replicate (width Arena.overrides) N ⌝ }
     {
@@ -255,8 +262,6 @@ impl Global {
 
     pub const INIT: usize = 1;
 
-    pub const TAG: usize = 2;
-
     pub fn empty() -> [u32; Global::WIDTH]
         ensures { λ r. ⌜ r ≡ replicate (width Arena.globals) N ⌝ }
     {
@@ -299,10 +304,6 @@ impl Expression {
     pub const LIMIT: usize = 4096;
 
     pub const KIND: usize = 0;
-    // the first of nine
-    pub const SLOT: usize = 1;
-
-    pub const TAG: usize = 10;
 
     pub fn empty() -> [u32; Expression::WIDTH]
         ensures { λ r. ⌜ r ≡ replicate (width Arena.expressions) N ⌝ }
@@ -349,12 +350,6 @@ impl Mention {
     pub const AREA: usize = 0;
 
     pub const HANDLE: usize = 1;
-
-    pub fn empty() -> [u32; Mention::WIDTH]
-        ensures { λ r. ⌜ r ≡ replicate mentionWidth N ⌝ }
-    {
-        [N; Mention::WIDTH]
-    }
 
     pub fn count(mentions: &[u32]) -> usize
         ensures { λ r. ⌜ r ≡ length (now (mentions .entry)) / mentionWidth ⌝ }

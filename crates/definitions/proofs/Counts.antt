@@ -34,7 +34,7 @@ abbrev pub keptRuns : Areas → List Elem → Arena → ℕ
 keptRuns s m a = startAfter s m a (size s a)
 
 -- the live words of two lists, one after another
-live-append : (l r : Words) → live (l ++ r) ≡ live l ++ live r
+pub live-append : (l r : Words) → live (l ++ r) ≡ live l ++ live r
 unfolding live
 live-append [] r = refl
 live-append (w ∷ l) r = go (eqb w N) (live-append l r)

@@ -4,6 +4,5 @@ pub mod Once
 pub mod Numbers
 pub mod Forward
 pub mod Reader
-pub mod One
-pub mod Two
+pub mod Passing
 pub mod Steps

@@ -12,6 +12,7 @@ use lib.ListN.{length, getD, take, drop, drop-of-length-le}
 use lib.Seq.{take-suc, drop-cons}
 use Rattle.definitions.specs.Areas.{Words, N}
 use Rattle.definitions.specs.MapEntries.{live, last, spanned}
+use Rattle.definitions.proofs.Counts.{live-append}
 
 live-dropped : (w : ℕ) (ws : Words) → w ≡ N → live (w ∷ ws) ≡ live ws
 unfolding live
@@ -20,15 +21,6 @@ live-dropped w ws e = simp (eq-eqb w N e)
 live-kept : (w : ℕ) (ws : Words) → (w ≡ N → ⊥) → live (w ∷ ws) ≡ w ∷ live ws
 unfolding live
 live-kept w ws n = simp (ne-eqb w N n)
-
-live-append : (a b : Words) → live (a ++ b) ≡ live a ++ live b
-unfolding live
-live-append [] b = refl
-live-append (w ∷ a) b = go (eqb w N) (live-append a b)
-  where
-    go : (t : Bool) → live (a ++ b) ≡ live a ++ live b → cond t (live (a ++ b)) (w ∷ live (a ++ b)) ≡ cond t (live a) (w ∷ live a) ++ live b
-    go true e = e
-    go false e = ap (λ l. w ∷ l) e
 
 last-append : (w v : ℕ) (ws : Words) → last w (ws ++ (v ∷ [])) ≡ v
 unfolding last

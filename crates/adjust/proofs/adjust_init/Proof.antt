@@ -13,9 +13,9 @@ use Rattle.adjust.proofs.adjust_init.Statement.{statement}
 use Rattle.adjust.proofs.adjust_init.Tie as tie
 
 -- N stays where it may be there
-absent : (due : Bool) (own : Words) (w : ℕ) → w ≡ N → due ≡ false → N ≡ initBy due own w
+absent : (due : Bool) (own : Words) (w : ℕ) → w ≡ N → due ≡ false → w ≡ initBy due own w
 unfolding initBy
-absent due own w e f = rw (f, eq-eqb w N e)
+absent due own w e f = rw (f, eq-eqb w N e) e
 
 -- what must be there is looked up
 due-there : (due : Bool) (own : Words) (w : ℕ) → due ≡ true → lookup own w ≡ initBy due own w
@@ -29,15 +29,15 @@ present true own w n = refl
 present false own w n = rw (ne-eqb w N n)
 
 returns : tie.Need-returns
-returns c = absent (c .before .before .before .args .must) (c .before .before .before .args .map .now) (c .before .before .before .args .init) (c .before .if1 .taken) (not-true _ (c .if2 .taken))
+returns c = absent (c .before .before .before .before .args .must) (c .before .before .before .before .args .expression-map .now) (c .before .before .before .before .args .init .0) (c .before .if1 .taken) (not-true _ (c .if2 .taken))
 
-lookup-requires : tie.Need-lookup-requires
-lookup-requires c κs = search needs
+expression-after-requires : tie.Need-expression-after-requires
+expression-after-requires c κs = search needs
 
 returns-2 : tie.Need-returns-2
 returns-2 c =
-    let a = c .before .before .before .args in
-    c .lookup .ensures ∙ ⊎-elim (λ w. due-there (a .must) (a .map .now) (a .init) (not-false _ (w .1 .left))) (λ w. present (a .must) (a .map .now) (a .init) (w .left)) (c .before .if1 .came)
+    let a = c .before .before .before .before .args in
+    c .expression-after .ensures ∙ ⊎-elim (λ w. due-there (a .must) (a .expression-map .now) (a .init .0) (not-false _ (w .1 .left))) (λ w. present (a .must) (a .expression-map .now) (a .init .0) (w .left)) (c .before .if1 .came)
 
 pub adjust-init-spec : {M : Type 1} → statement M
-adjust-init-spec = tie.close (tie.spec returns lookup-requires returns-2)
+adjust-init-spec = tie.close (tie.spec returns expression-after-requires returns-2)

@@ -1,116 +1,81 @@
--- `adjust::adjust_kept` meets its contract: a constant, override or global has one shape; another body's slots are those of its shape.
+-- `adjust::adjust_kept` meets its contract: the tail is read past the words that were written before it.
 -- Assumes nothing.
-use mathlib.Core.Path.{_≡_, refl, ap, _∙_}
-use mathlib.Core.Bool.{true, false}
-use mathlib.Core.List.{[], _∷_, _++_}
-use Prim.Native.Nat.{ℕ, _+_, _-_}
+use mathlib.Core.Path.{_≡_, refl, sym, ap, ap₂, _∙_}
+use mathlib.Core.List.{List, [], _∷_, _++_}
+use Prim.Native.Nat.{ℕ, suc, _+_, _≤_}
+use native.Mathlib.Nat.{add-zero}
 use native.Mathlib.Omega.{arith}
+use lib.ListN.{length, getD, set}
 use lib.Seq.{sets}
-use types.Run.{OneOf}
 use borrow.Author.Needs.{needs}
-use Rattle.definitions.specs.Areas.{Words, numbered, width}
-use Rattle.definitions.specs.Slots.{body, tag, slots}
-use Rattle.definitions.specs.Outcome.{Maps, mapOf}
+use Rattle.definitions.specs.Areas.{Words, Arena, numbered, width}
+use Rattle.definitions.specs.Slots.{Slot, body, tag, slots}
+use Rattle.definitions.specs.Outcome.{Maps}
 use Rattle.definitions.proofs.Reading.{width-pos}
 use Rattle.slots.specs.Codes.{wordsFrom}
-use Rattle.slots.proofs.Decision.{at-keys}
-use Rattle.slots.proofs.Laws.{body-shape}
-use Rattle.adjust.specs.Rewrite.{mapsOf, adjustedBy, initBy, typedBy, recordFrom}
+use Rattle.slots.proofs.Laws.{body-length}
+use Rattle.adjust.specs.Rewrite.{adjustedBy, recordFrom}
+use Rattle.adjust.proofs.Stores.{past-sets, sets-last}
+use Rattle.adjust.proofs.Passes.{length-record}
 use Rattle.adjust.proofs.adjust_kept.Statement.{statement}
 use Rattle.adjust.proofs.adjust_kept.Tie as tie
 
--- opens the bodies that have one shape
-opened : ℕ
-unfolding numbered width body slots recordFrom adjustedBy mapOf initBy typedBy
-opened = 0
+module _ (p : Maps) (b : ℕ) where
+  -- a record's words, then its tail as it is
+  record-tail : (f : ℕ → ℕ) (k : ℕ) (ls : List Slot) → recordFrom p b f k (ls ++ tag) ≡ recordFrom p b f k ls ++ (f (k + length ls) ∷ [])
+  unfolding recordFrom adjustedBy
+  record-tail f k [] = ap (λ i. f i ∷ []) (sym (add-zero k))
+  record-tail f k (l ∷ ls) =
+      let e : suc k + length ls ≡ k + suc (length ls) = omega arith in
+      ap (λ r. adjustedBy p b l (f k) ∷ r) (record-tail f (suc k) ls ∙ ap (λ i. recordFrom p b f (suc k) ls ++ (f i ∷ [])) e)
 
--- the words of the area's record, adjusted
-abbrev Right : Maps → ℕ → (ℕ → ℕ) → Words → ℕ → Type 0
-Right p b f r area = r ≡ recordFrom p b f 0 (slots (numbered area) f)
+  -- stored one after the other they are the record
+  carried : (a : Arena) (ws : Words) (from to n : ℕ) {new last : Words} → to ≤ from → n + 1 ≡ width a
+      → new ≡ sets ws to (recordFrom p b (wordsFrom ws from) 0 (body a (wordsFrom ws from))) → last ≡ set new (to + n) (getD new (from + n) 0)
+      → last ≡ sets ws to (recordFrom p b (wordsFrom ws from) 0 (slots a (wordsFrom ws from)))
+  unfolding slots
+  carried a ws from to n l w q r =
+      let f : ℕ → ℕ = wordsFrom ws from in
+      let vs : Words = recordFrom p b f 0 (body a f) in
+      let m : length vs ≡ n = length-record p b f 0 (body a f) ∙ omega (arith, body-length a f) in
+      let k : 0 + length (body a f) ≡ n = omega (arith, body-length a f) in
+      r
+      ∙ ap₂ (λ l v. set l (to + n) v) q (ap (λ l. getD l (from + n) 0) q ∙ past-sets vs ws to (from + n) (omega arith))
+      ∙ ap (λ i. set (sets ws to vs) (to + i) (f n)) (sym m)
+      ∙ sym (sets-last vs ws to (f n))
+      ∙ ap (sets ws to) (sym (record-tail f 0 (body a f) ∙ ap (λ i. vs ++ (f i ∷ [])) k))
 
-module _ (p : Maps) (b : ℕ) (f : ℕ → ℕ) where
-  of-constant : (area : ℕ) → OneOf (1 ∷ []) area → Right p b f (f 0 ∷ typedBy true (p .types) (p .expressions) f 1) area
-  unfolding opened
-  of-constant = at-keys (Right p b f _) (1 ∷ []) (refl, tt)
+sub-n : tie.Need-sub-n
+sub-n c = omega (arith, width-pos (numbered (c .before .before .before .before .before .before .args .area)))
 
-  of-override : (area : ℕ) → OneOf (2 ∷ []) area → Right p b f (f 0 ∷ typedBy false (p .types) (p .expressions) f 1) area
-  unfolding opened
-  of-override = at-keys (Right p b f _) (2 ∷ []) (refl, tt)
+adjust-body-requires : tie.Need-adjust-body-requires
+adjust-body-requires c κs = omega (arith, width-pos (numbered (c .before .before .before .before .before .before .before .args .area)))
 
-  of-global : (area : ℕ) → OneOf (3 ∷ []) area → Right p b f (typedBy false (p .types) (p .expressions) f 0) area
-  unfolding opened
-  of-global = at-keys (Right p b f _) (3 ∷ []) (refl, tt)
+add-carry-tail : tie.Need-add-carry-tail
+add-carry-tail c = search needs
 
--- how many words such a record has
-of-width : (n k area : ℕ) → width (numbered k) ≡ n → OneOf (k ∷ []) area → width (numbered area) ≡ n
-of-width n k area e = at-keys (λ a. width (numbered a) ≡ n) (k ∷ []) (e, tt) area
+add-carry-tail-2 : tie.Need-add-carry-tail-2
+add-carry-tail-2 c = search needs
 
-adjust-named-requires : tie.Need-adjust-named-requires
-unfolding opened
-adjust-named-requires c κs = omega (arith, of-width 4 1 _ refl (c .before .match .keys1))
-
-adjust-named-requires-2 : tie.Need-adjust-named-requires-2
-unfolding opened
-adjust-named-requires-2 c κs = omega (arith, of-width 4 2 _ refl (c .before .match .keys2))
-
-adjust-typed-requires : tie.Need-adjust-typed-requires
-unfolding opened
-adjust-typed-requires c κs = omega (arith, of-width 3 3 _ refl (c .before .match .keys3))
-
-shape-requires : tie.Need-shape-requires
-shape-requires c κs = search needs
-
-sub-adjust-record : tie.Need-sub-adjust-record
-sub-adjust-record c = omega (arith, width-pos (numbered (c .before .before .before .before .before .before .before .before .before .before .args .area)))
-
-adjust-record-requires : tie.Need-adjust-record-requires
-adjust-record-requires c κs = omega (arith, width-pos (numbered (c .before .before .before .before .before .before .before .before .before .before .args .area)))
+carry-tail-requires : tie.Need-carry-tail-requires
+carry-tail-requires c κs = omega (arith, width-pos (numbered (c .before .before .before .before .before .before .before .before .before .before .before .args .area)))
 
 same-length : tie.Need-same-length
 same-length c = search needs
 
 returns : tie.Need-returns
-returns c = let a = c .before .before .before .before .before .before .before .before .before .before .before .args in c .before .before .adjust-named .ensures ∙ ap (sets (a .ws .now) (a .to)) (of-constant _ (a .start) (wordsFrom (a .ws .now) (a .from)) _ (c .before .before .before .before .match .keys1))
-
-same-length-2 : tie.Need-same-length-2
-same-length-2 c = search needs
-
-returns-2 : tie.Need-returns-2
-returns-2 c = let a = c .before .before .before .before .before .before .before .before .before .before .before .args in c .before .before .adjust-named2 .ensures ∙ ap (sets (a .ws .now) (a .to)) (of-override _ (a .start) (wordsFrom (a .ws .now) (a .from)) _ (c .before .before .before .before .match .keys2))
-
-same-length-3 : tie.Need-same-length-3
-same-length-3 c = search needs
-
-returns-3 : tie.Need-returns-3
-returns-3 c = let a = c .before .before .before .before .before .before .before .before .before .before .before .args in c .before .before .adjust-typed .ensures ∙ ap (sets (a .ws .now) (a .to)) (of-global _ (a .start) (wordsFrom (a .ws .now) (a .from)) _ (c .before .before .before .before .match .keys3))
-
-same-length-4 : tie.Need-same-length-4
-same-length-4 c = search needs
-
-returns-4 : tie.Need-returns-4
-unfolding slots
-returns-4 c =
-    let a = c .before .before .before .before .before .before .before .before .before .before .before .before .before .args in
-    let f = wordsFrom (a .ws .now) (a .from) in
-    c .before .before .adjust-record .ensures
-    ∙ ap (λ ls. sets (a .ws .now) (a .to) (recordFrom (mapsOf (a .type-map .now) (a .constant-map .now) (a .override-map .now) (a .global-map .now) (a .expression-map .now)) (a .start) f 0 (ls ++ tag)))
-    (body-shape (numbered (a .area)) f _ (a .wide - 1) (c .before .before .before .before .shape .ensures) (omega (arith, width-pos (numbered (a .area)))))
+returns c =
+    let a = c .before .before .before .before .before .before .before .before .before .before .before .before .before .before .args in
+    carried _ (a .start) (numbered (a .area)) (a .ws .now) (a .from) (a .to) _ (omega arith) (omega (arith, width-pos (numbered (a .area)))) (c .before .before .before .before .before .before .adjust-body .ensures) (c .before .before .carry-tail .ensures)
 
 pub adjust-kept-spec : {M : Type 1} → statement M
 adjust-kept-spec =
     tie.close
     (tie.spec
-    adjust-named-requires
-    adjust-named-requires-2
-    adjust-typed-requires
-    shape-requires
-    sub-adjust-record
-    adjust-record-requires
+    sub-n
+    adjust-body-requires
+    add-carry-tail
+    add-carry-tail-2
+    carry-tail-requires
     same-length
-    returns
-    same-length-2
-    returns-2
-    same-length-3
-    returns-3
-    same-length-4
-    returns-4)
+    returns)

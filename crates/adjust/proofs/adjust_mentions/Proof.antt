@@ -1,10 +1,8 @@
 -- `adjust::adjust_mentions` meets its contract: the mentions before `at` are adjusted.
 -- Assumes nothing.
-use mathlib.Core.Path.{ap, _∙_}
 use Prim.Native.Nat.{_-_}
 use native.Mathlib.Omega.{arith}
 use lib.ListN.{length}
-use Rattle.definitions.specs.Outcome.{mapOf}
 use Rattle.adjust.specs.Rewrite.{mapsOf}
 use Rattle.adjust.proofs.Passes.{Renaming, renaming, mention-renamed, renamed}
 use borrow.Author.Needs.{needs}
@@ -22,6 +20,9 @@ loop-holds c = renaming _ _
 
 sub-loop : tie.Need-sub-loop Inv-loop μ-loop
 sub-loop c = search needs
+
+add-area : tie.Need-add-area Inv-loop μ-loop
+add-area c = search needs
 
 mul-area : tie.Need-mul-area Inv-loop μ-loop
 mul-area c = search needs
@@ -41,11 +42,8 @@ slice-read-h c = search needs
 arena-at-requires : tie.Need-arena-at-requires Inv-loop μ-loop
 arena-at-requires c κs = search needs
 
-map-of-requires : tie.Need-map-of-requires Inv-loop μ-loop
-map-of-requires c κs = search needs
-
-lookup-requires : tie.Need-lookup-requires Inv-loop μ-loop
-lookup-requires c κs = search needs
+word-after-requires : tie.Need-word-after-requires Inv-loop μ-loop
+word-after-requires c κs = search needs
 
 mul-mentions : tie.Need-mul-mentions Inv-loop μ-loop
 mul-mentions c = search needs
@@ -61,8 +59,8 @@ loop-less c = search needs
 
 loop-again : tie.Need-loop-again Inv-loop μ-loop
 loop-again c =
-    let l = c .before .before .before .before .before .before .loop in
-    mention-renamed _ _ _ _ (omega arith) (l .inv) _ _ (c .before .map-of .ensures ∙ ap (mapOf _) (c .before .before .arena-at .ensures)) (c .lookup .ensures)
+    let l = c .before .before .before .before .before .loop in
+    mention-renamed _ _ _ _ (omega arith) (l .inv) _ _ (c .before .arena-at .ensures) (c .word-after .ensures)
 
 same-length : tie.Need-same-length Inv-loop μ-loop
 same-length c = search needs
@@ -78,14 +76,14 @@ adjust-mentions-spec =
     μ-loop
     loop-holds
     sub-loop
+    add-area
     mul-area
     slice-read-area
     add-place
     mul-h
     slice-read-h
     arena-at-requires
-    map-of-requires
-    lookup-requires
+    word-after-requires
     mul-mentions
     slice-write-mentions
     add-at

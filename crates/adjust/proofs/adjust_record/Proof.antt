@@ -1,7 +1,7 @@
 -- `adjust::adjust_record` meets its contract: after k turns k words of the record are stored, and `rest` has the slots of those left.
 -- Assumes nothing.
-use mathlib.Core.Path.{_≡_, refl, sym, ap, ap₂, _∙_}
-use mathlib.Core.List.{[], _∷_, _++_}
+use mathlib.Core.Path.{_≡_, sym, ap, ap₂, _∙_}
+use mathlib.Core.List.{_∷_}
 use Prim.Native.Nat.{ℕ, suc, _+_, _-_, _/_, _%_, _≤_, _<_}
 use native.Mathlib.Nat.{sub-zero}
 use native.Mathlib.Numerals.{add-one}
@@ -9,7 +9,7 @@ use native.Mathlib.Omega.{arith}
 use lib.ListN.{getD, set}
 use lib.Seq.{sets}
 use Rattle.definitions.specs.Areas.{Words}
-use Rattle.definitions.specs.Slots.{Slot, tag}
+use Rattle.definitions.specs.Slots.{Slot}
 use Rattle.definitions.specs.Outcome.{Maps}
 use Rattle.slots.specs.Codes.{decoded, unpacked, wordsFrom}
 use Rattle.adjust.specs.Rewrite.{mapsOf, adjustedBy, recordFrom}
@@ -21,11 +21,11 @@ use Rattle.adjust.proofs.adjust_record.Tie as tie
 module _ (p : Maps) (b : ℕ) (old : Words) (from n shape : ℕ) where
   -- the record, adjusted
   abbrev whole : Words
-  whole = recordFrom p b (wordsFrom old from) 0 (unpacked shape n ++ tag)
+  whole = recordFrom p b (wordsFrom old from) 0 (unpacked shape n)
 
   -- its words from word k on; rest has their slots
   abbrev left : ℕ → ℕ → Words
-  left rest k = recordFrom p b (wordsFrom old from) k (unpacked rest (n - k) ++ tag)
+  left rest k = recordFrom p b (wordsFrom old from) k (unpacked rest (n - k))
 
   record Partway (new : Words) (to rest k : ℕ) : Type 0 where
     pub storing : Storing old new to k (left rest k) whole
@@ -45,15 +45,11 @@ module _ (p : Maps) (b : ℕ) (old : Words) (from n shape : ℕ) where
             (r ∙ ap (λ x. x ∷ left (rest / 16) (k + 1)) (sym (q ∙ ap₂ (adjustedBy p b) e (w .storing .ahead (from + k) (omega arith))))) (w .storing);
       }
 
-  -- the last word is the tag, which stays
-  at-end : (new : Words) (to rest k : ℕ) → to ≤ from → k ≡ n → Partway new to rest k → set new (to + n) (getD new (from + n) 0) ≡ sets old to whole
-  unfolding recordFrom adjustedBy unpacked
-  at-end new to rest k h e w =
+  at-end : (new : Words) (to rest k : ℕ) → k ≡ n → Partway new to rest k → new ≡ sets old to whole
+  unfolding recordFrom unpacked
+  at-end new to rest k e w =
       let m : n - k ≡ 0 = omega arith in
-      let r : left rest k ≡ getD old (from + k) 0 ∷ [] = rw m in
-      ap (λ i. set new (to + i) (getD new (from + i) 0)) (sym e)
-      ∙ (all-stored old _ to (k + 1) [] whole refl
-      (one-stored old new to k _ (left rest k) [] whole (r ∙ ap (λ x. x ∷ []) (sym (w .storing .ahead (from + k) (omega arith)))) (w .storing)))
+      all-stored old new to k (left rest k) whole (rw m) (w .storing)
 
 abbrev Inv-loop : tie.InvT-loop
 Inv-loop ws₀ from to n shape start type-map constant-map override-map global-map expression-map rest₀ k₀ ws rest k =
@@ -101,29 +97,11 @@ loop-again c =
     let l = c .before .before .before .before .loop in
     (search needs, turn _ _ _ _ _ _ _ _ _ _ (omega arith) (omega arith) (c .before .before .first .ensures) (c .adjust-slot .ensures) (l .inv .1))
 
-add-tag : tie.Need-add-tag Inv-loop μ-loop
-add-tag c = search needs
-
-mul-tag : tie.Need-mul-tag Inv-loop μ-loop
-mul-tag c = search needs
-
-slice-read-tag : tie.Need-slice-read-tag Inv-loop μ-loop
-slice-read-tag c = search needs
-
-add-ws-2 : tie.Need-add-ws-2 Inv-loop μ-loop
-add-ws-2 c = search needs
-
-mul-ws-2 : tie.Need-mul-ws-2 Inv-loop μ-loop
-mul-ws-2 c = search needs
-
-slice-write-ws-2 : tie.Need-slice-write-ws-2 Inv-loop μ-loop
-slice-write-ws-2 c = search needs
-
 same-length : tie.Need-same-length Inv-loop μ-loop
-same-length c = search (needs, c .before .before .loop .inv .1 .storing .same)
+same-length c = c .before .loop .inv .1 .storing .same
 
 returns : tie.Need-returns Inv-loop μ-loop
-returns c = let l = c .before .before .loop in at-end _ _ _ _ _ _ _ _ _ _ (omega arith) (omega arith) (l .inv .1)
+returns c = let l = c .before .loop in at-end _ _ _ _ _ _ _ _ _ _ (omega arith) (l .inv .1)
 
 pub adjust-record-spec : {M : Type 1} → statement M
 adjust-record-spec =
@@ -143,11 +121,5 @@ adjust-record-spec =
     add-k
     loop-less
     loop-again
-    add-tag
-    mul-tag
-    slice-read-tag
-    add-ws-2
-    mul-ws-2
-    slice-write-ws-2
     same-length
     returns)

@@ -39,25 +39,25 @@ module _ (own pool : Words) (from n : ℕ) where
       (q ∙ ap (λ w. w ∷ left (k + 1)) (sym (e ∙ ap (lookup own) (s .ahead (from + k) (omega arith))))) s
 
 abbrev Inv-loop : tie.InvT-loop
-Inv-loop pool₀ from to n own k₀ pool k = (k ≤ n) × Storing pool₀ pool to k (left own pool₀ from n k) (whole own pool₀ from n)
+Inv-loop area pool₀ from to n own k₀ pool k = (k ≤ n) × Storing pool₀ pool to k (left own pool₀ from n k) (whole own pool₀ from n)
 
 abbrev μ-loop : tie.MeasureT-loop
-μ-loop pool₀ from to n own k₀ pool k = n - k
+μ-loop area pool₀ from to n own k₀ pool k = n - k
 
 loop-holds : tie.Need-loop-holds Inv-loop μ-loop
 loop-holds c = let a = c .before .before .args in (search needs, none-stored _ _ _ _ (at-start (a .own .now) (a .pool .now) (a .from) (a .n)))
 
-add-lookup : tie.Need-add-lookup Inv-loop μ-loop
-add-lookup c = search needs
+add-run-word : tie.Need-add-run-word Inv-loop μ-loop
+add-run-word c = search needs
 
-mul-lookup : tie.Need-mul-lookup Inv-loop μ-loop
-mul-lookup c = search needs
+mul-run-word : tie.Need-mul-run-word Inv-loop μ-loop
+mul-run-word c = search needs
 
-slice-read-lookup : tie.Need-slice-read-lookup Inv-loop μ-loop
-slice-read-lookup c = search needs
+slice-read-run-word : tie.Need-slice-read-run-word Inv-loop μ-loop
+slice-read-run-word c = search needs
 
-lookup-requires : tie.Need-lookup-requires Inv-loop μ-loop
-lookup-requires c κs = search needs
+run-word-requires : tie.Need-run-word-requires Inv-loop μ-loop
+run-word-requires c κs = search needs
 
 add-pool : tie.Need-add-pool Inv-loop μ-loop
 add-pool c = search needs
@@ -78,7 +78,7 @@ loop-again : tie.Need-loop-again Inv-loop μ-loop
 loop-again c =
     let a = c .before .before .before .before .before .before .args in
     let l = c .before .before .before .loop in
-    (search needs, turn (a .own .now) (a .pool .now) (a .from) (a .n) (omega arith) (l .pool) (a .to) (l .k) _ (omega arith) (omega arith) (c .lookup .ensures) (l .inv .1))
+    (search needs, turn (a .own .now) (a .pool .now) (a .from) (a .n) (omega arith) (l .pool) (a .to) (l .k) _ (omega arith) (omega arith) (c .run-word .ensures) (l .inv .1))
 
 same-length : tie.Need-same-length Inv-loop μ-loop
 same-length c = c .before .loop .inv .1 .same
@@ -96,10 +96,10 @@ adjust-run-spec =
     Inv-loop
     μ-loop
     loop-holds
-    add-lookup
-    mul-lookup
-    slice-read-lookup
-    lookup-requires
+    add-run-word
+    mul-run-word
+    slice-read-run-word
+    run-word-requires
     add-pool
     mul-pool
     slice-write-pool

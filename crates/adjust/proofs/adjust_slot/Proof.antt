@@ -21,17 +21,17 @@ use Rattle.adjust.proofs.adjust_slot.Tie as tie
 
 -- in each arm that is given the slot s, what is answered is the word w adjusted
 module _ (p : Maps) (b w : ℕ) {s : Slot} where
-  of-must : {x : Arena} {m : Words} {v : ℕ} → s ≡ Must x → m ≡ mapOf p (arenaOf x) → v ≡ lookup m w → v ≡ adjustedBy p b (slotOf s) w
+  of-must : {x : Arena} {v : ℕ} → s ≡ Must x → v ≡ lookup (mapOf p (arenaOf x)) w → v ≡ adjustedBy p b (slotOf s) w
   unfolding adjustedBy
-  of-must e q r = r ∙ ap (λ l. lookup l w) q ∙ sym (ap (λ y. adjustedBy p b (slotOf y) w) e)
+  of-must e r = r ∙ sym (ap (λ y. adjustedBy p b (slotOf y) w) e)
 
   none-may : {x : Arena} → s ≡ May x → w ≡ N → N ≡ adjustedBy p b (slotOf s) w
   unfolding adjustedBy
   none-may e n = sym (ap (λ y. adjustedBy p b (slotOf y) w) e ∙ rw (eq-eqb w N n))
 
-  some-may : {x : Arena} {m : Words} {v : ℕ} → s ≡ May x → (w ≡ N → ⊥) → m ≡ mapOf p (arenaOf x) → v ≡ lookup m w → v ≡ adjustedBy p b (slotOf s) w
+  some-may : {x : Arena} {v : ℕ} → s ≡ May x → (w ≡ N → ⊥) → v ≡ lookup (mapOf p (arenaOf x)) w → v ≡ adjustedBy p b (slotOf s) w
   unfolding adjustedBy
-  some-may e n q r = r ∙ ap (λ l. lookup l w) q ∙ sym (ap (λ y. adjustedBy p b (slotOf y) w) e ∙ rw (ne-eqb w N n))
+  some-may e n r = r ∙ sym (ap (λ y. adjustedBy p b (slotOf y) w) e ∙ rw (ne-eqb w N n))
 
   of-start : s ≡ Start → b ≡ adjustedBy p b (slotOf s) w
   unfolding adjustedBy
@@ -51,11 +51,8 @@ others p b w Count o = refl
 enum-known-slot : tie.Need-enum-known-slot
 enum-known-slot c = search needs
 
-map-of-requires : tie.Need-map-of-requires
-map-of-requires c κs = search needs
-
-lookup-requires : tie.Need-lookup-requires
-lookup-requires c κs = search needs
+word-after-requires : tie.Need-word-after-requires
+word-after-requires c κs = search needs
 
 enum-known-slot-2 : tie.Need-enum-known-slot-2
 enum-known-slot-2 c = search needs
@@ -63,20 +60,17 @@ enum-known-slot-2 c = search needs
 returns : tie.Need-returns
 returns c = none-may _ _ _ (c .before .before .slot2 .given .1) (c .if1 .taken)
 
-map-of-requires-2 : tie.Need-map-of-requires-2
-map-of-requires-2 c κs = search needs
-
-lookup-requires-2 : tie.Need-lookup-requires-2
-lookup-requires-2 c κs = search needs
+word-after-requires-2 : tie.Need-word-after-requires-2
+word-after-requires-2 c κs = search needs
 
 enum-told : tie.Need-enum-told
 enum-told c = search needs
 
 returns-2 : tie.Need-returns-2
-returns-2 c = of-must _ _ _ (c .before .before .before .slot .given .1) (c .before .map-of .ensures) (c .lookup .ensures)
+returns-2 c = of-must _ _ _ (c .before .before .slot .given .1) (c .word-after .ensures)
 
 returns-3 : tie.Need-returns-3
-returns-3 c = some-may _ _ _ (c .before .before .before .before .slot2 .given .1) (c .before .before .if1 .left) (c .before .map-of2 .ensures) (c .lookup2 .ensures)
+returns-3 c = some-may _ _ _ (c .before .before .before .slot2 .given .1) (c .before .if1 .left) (c .word-after2 .ensures)
 
 returns-4 : tie.Need-returns-4
 returns-4 c = of-start _ _ _ (c .enum-told .given .1)
@@ -89,12 +83,10 @@ adjust-slot-spec =
     tie.close
     (tie.spec
     enum-known-slot
-    map-of-requires
-    lookup-requires
+    word-after-requires
     enum-known-slot-2
     returns
-    map-of-requires-2
-    lookup-requires-2
+    word-after-requires-2
     enum-told
     returns-2
     returns-3

@@ -1,4 +1,4 @@
--- `adjust::adjust_typed` meets its contract: all words are read before the first is written.
+-- `adjust::adjust_typed` meets its contract: both words are read before the first is written.
 -- Assumes nothing.
 use mathlib.Core.Path.{_≡_}
 use mathlib.Core.Bool.{Bool}
@@ -15,41 +15,35 @@ use Rattle.adjust.specs.Rewrite.{initBy, typedBy}
 use Rattle.adjust.proofs.adjust_typed.Statement.{statement}
 use Rattle.adjust.proofs.adjust_typed.Tie as tie
 
--- three words stored one after another are the record
-three : (due : Bool) (t e ws : Words) (from to : ℕ) {x y : ℕ} → x ≡ lookup t (getD ws from 0) → y ≡ initBy due e (getD ws (from + 1) 0)
-    → set (set (set ws to x) (to + 1) y) (to + 2) (getD ws (from + 2) 0) ≡ sets ws to (typedBy due t e (wordsFrom ws from) 0)
+-- two words stored one after another are the record's
+two : (due : Bool) (t e ws : Words) (from to : ℕ) {x y : ℕ} → x ≡ lookup t (getD ws (from + 0) 0) → y ≡ initBy due e (getD ws (from + 1) 0)
+    → set (set ws (to + 0) x) (to + 1) y ≡ sets ws to (typedBy due t e (wordsFrom ws from) 0)
 unfolding typedBy
-three due t e ws from to p q =
-    let one : to + 1 ≡ suc to = omega arith in
-    let two : to + 2 ≡ suc (suc to) = omega arith in
-    rw (p, q, one, two, add-zero from)
+two due t e ws from to p q = let one : to + 1 ≡ suc to = omega arith in rw (p, q, one, add-zero to)
 
-mul-ty : tie.Need-mul-ty
-mul-ty c = search needs
+add-t9 : tie.Need-add-t9
+add-t9 c = search needs
 
-slice-read-ty : tie.Need-slice-read-ty
-slice-read-ty c = search needs
+mul-t10 : tie.Need-mul-t10
+mul-t10 c = search needs
 
-add-init : tie.Need-add-init
-add-init c = search needs
+slice-read-t12 : tie.Need-slice-read-t12
+slice-read-t12 c = search needs
 
-mul-init : tie.Need-mul-init
-mul-init c = search needs
+add-t9-2 : tie.Need-add-t9-2
+add-t9-2 c = search needs
 
-slice-read-init : tie.Need-slice-read-init
-slice-read-init c = search needs
+mul-t10-2 : tie.Need-mul-t10-2
+mul-t10-2 c = search needs
 
-add-tag : tie.Need-add-tag
-add-tag c = search needs
+slice-read-t12-2 : tie.Need-slice-read-t12-2
+slice-read-t12-2 c = search needs
 
-mul-tag : tie.Need-mul-tag
-mul-tag c = search needs
+type-after-requires : tie.Need-type-after-requires
+type-after-requires c κs = search needs
 
-slice-read-tag : tie.Need-slice-read-tag
-slice-read-tag c = search needs
-
-lookup-requires : tie.Need-lookup-requires
-lookup-requires c κs = search needs
+add-ws : tie.Need-add-ws
+add-ws c = search needs
 
 mul-ws : tie.Need-mul-ws
 mul-ws c = search needs
@@ -60,51 +54,38 @@ slice-write-ws c = search needs
 adjust-init-requires : tie.Need-adjust-init-requires
 adjust-init-requires c κs = search needs
 
-add-ws : tie.Need-add-ws
-add-ws c = search needs
+add-ws-2 : tie.Need-add-ws-2
+add-ws-2 c = search needs
 
 mul-ws-2 : tie.Need-mul-ws-2
 mul-ws-2 c = search needs
 
 slice-write-ws-2 : tie.Need-slice-write-ws-2
-slice-write-ws-2 c = search (needs, length-set (c .before .before .before .before .before .before .before .before .args .ws .now) (c .before .before .before .before .before .before .before .before .args .to) (c .before .lookup .result))
-
-add-ws-2 : tie.Need-add-ws-2
-add-ws-2 c = search needs
-
-mul-ws-3 : tie.Need-mul-ws-3
-mul-ws-3 c = search needs
-
-slice-write-ws-3 : tie.Need-slice-write-ws-3
-slice-write-ws-3 c = search (needs, length-set (c .before .before .before .before .before .before .before .before .args .ws .now) (c .before .before .before .before .before .before .before .before .args .to) (c .before .lookup .result), length-set (set (c .before .before .before .before .before .before .before .before .args .ws .now) (c .before .before .before .before .before .before .before .before .args .to) (c .before .lookup .result)) (c .before .before .before .before .before .before .before .before .args .to + 1) (c .adjust-init .result))
+slice-write-ws-2 c = let a = c .before .before .before .before .before .before .before .args in search (needs, length-set (a .ws .now) (a .to + 0) (c .before .type-after .result .0))
 
 same-length : tie.Need-same-length
 same-length c = search needs
 
 returns : tie.Need-returns
-returns c = three (c .before .before .before .before .before .before .before .before .args .must) (c .before .before .before .before .before .before .before .before .args .type-map .now) (c .before .before .before .before .before .before .before .before .args .expression-map .now) (c .before .before .before .before .before .before .before .before .args .ws .now) (c .before .before .before .before .before .before .before .before .args .from) (c .before .before .before .before .before .before .before .before .args .to) (c .before .lookup .ensures) (c .adjust-init .ensures)
+returns c = let a = c .before .before .before .before .before .before .before .args in two (a .must) (a .type-map .now) (a .expression-map .now) (a .ws .now) (a .from) (a .to) (c .before .type-after .ensures) (c .adjust-init .ensures)
 
 pub adjust-typed-spec : {M : Type 1} → statement M
 adjust-typed-spec =
     tie.close
     (tie.spec
-    mul-ty
-    slice-read-ty
-    add-init
-    mul-init
-    slice-read-init
-    add-tag
-    mul-tag
-    slice-read-tag
-    lookup-requires
+    add-t9
+    mul-t10
+    slice-read-t12
+    add-t9-2
+    mul-t10-2
+    slice-read-t12-2
+    type-after-requires
+    add-ws
     mul-ws
     slice-write-ws
     adjust-init-requires
-    add-ws
+    add-ws-2
     mul-ws-2
     slice-write-ws-2
-    add-ws-2
-    mul-ws-3
-    slice-write-ws-3
     same-length
     returns)
