@@ -14,7 +14,7 @@ use Rattle.definitions.specs.Lists.{all}
 use Rattle.definitions.specs.Areas.{Arena, types, constants, overrides, globals, expressions}
 use Rattle.definitions.specs.Slots.{Slot, unused, free, below, must, may, start, count, fill, body, typeBody, typeSlots, exprBody, exprSlots, levelSlots, querySlots, formOf}
 use Rattle.definitions.proofs.Least.{and-left, and-right}
-use Rattle.definitions.proofs.AcceptedAfter.{both}
+use Rattle.definitions.proofs.Least.{both}
 use Rattle.slots.specs.Codes.{codes, decoded, codeOf, packed, unpacked}
 
 -- has the slot a code ?
