@@ -1,18 +1,19 @@
--- Words stored one after another, and a pass that closes up in place what passes a test.
+-- Words stored one after another, a pass that closes up in place what passes a test, and what is freed after it.
 -- Assumes nothing.
-use mathlib.Core.Path.{_≡_, refl, sym, ap, _∙_}
+use mathlib.Core.Path.{_≡_, refl, sym, ap, ap₂, _∙_}
 use mathlib.Core.Bool.{Bool, true, false}
-use mathlib.Core.List.{[], _∷_, _++_, append-nil}
+use mathlib.Core.List.{[], _∷_, _++_, append-nil, append-assoc}
 use Prim.Native.Nat.{ℕ, suc, _+_, _-_, _≤_}
-use native.Mathlib.Nat.{add-zero}
+use native.Mathlib.Nat.{le-refl, add-zero}
 use native.Mathlib.Numerals.{add-one}
 use native.Mathlib.Omega.{arith}
-use lib.ListN.{length, getD, take, drop, set, replicate, length-append, length-set, length-drop, drop-of-length-le}
+use lib.ListN.{length, getD, take, drop, set, replicate, length-append, length-set, length-drop, drop-of-length-le, replicate-append-replicate}
 use lib.Seq.{sets, sets-eq, length-sets, take-at, drop-set-lt, getD-set-other, length-take-le, drop-drop}
 use borrow.Rule.Slice.PartMut.{putMid, midOf, postOf}
 use Rattle.definitions.specs.Lists.{gather}
 use Rattle.definitions.specs.Areas.{Words, N}
 use Rattle.definitions.specs.Records.{padded}
+use Rattle.adjust.specs.Rewrite.{Empty, freedFrom}
 
 -- ---- one after another
 
@@ -134,3 +135,38 @@ tail-filled l to part h e =
     let q : length (drop to l) ≤ length l - to = omega arith in
     let none : postOf to (length l - to) l ≡ [] = drop-of-length-le (drop to l) q in
     ap (λ x. take to l ++ (part ++ x)) none ∙ ap (λ x. take to l ++ x) (append-nil part ∙ e ∙ ap (λ n. replicate n N) m)
+
+-- ---- freeing
+
+-- the words before `at` stand as they are to where those from `from` on are freed
+pub record Freeing (old new : Words) (from at : ℕ) : Type 0 where
+  pub low : from ≤ at
+  pub high : at ≤ length old
+  pub same : length new ≡ length old
+  pub done : take at new ≡ take from old ++ replicate (at - from) N
+
+pub freeing : (old : Words) (from : ℕ) → from ≤ length old → Freeing old old from from
+freeing old from h =
+    let none : from - from ≡ 0 = omega arith in
+    record { low = le-refl from; high = h; same = refl; done = sym (ap (λ n. take from old ++ replicate n N) none ∙ append-nil (take from old)) }
+
+more-none : (l : Words) (a b k : ℕ) → k ≡ a + b → (l ++ replicate a N) ++ replicate b N ≡ l ++ replicate k N
+more-none l a b k e = append-assoc l (replicate a N) (replicate b N) ∙ ap (λ r. l ++ r) (replicate-append-replicate a b N ∙ ap (λ n. replicate n N) (sym e))
+
+pub one-freed : (old new empty : Words) (from at : ℕ) {new′ : Words} → Freeing old new from at → Empty empty → length empty ≤ length new - at → new′ ≡ sets new at empty
+    → Freeing old new′ from (at + length empty)
+one-freed old new empty from at f e l q =
+    let room : at + length empty ≤ length new = omega (arith, f .high, f .same) in
+    record {
+      low = omega (arith, f .low);
+      high = omega (arith, room, f .same);
+      same = ap length q ∙ length-sets new at empty ∙ f .same;
+      done =
+          ap (take (at + length empty)) q ∙ take-sets new at empty room ∙ ap₂ _++_ (f .done) (e .all-none)
+          ∙ more-none (take from old) (at - from) (length empty) (at + length empty - from) (omega (arith, f .low));
+    }
+
+pub all-freed : (old new last : Words) (from at : ℕ) → Freeing old new from at → last ≡ freedFrom at new → last ≡ freedFrom from old
+all-freed old new last from at f e =
+    e ∙ ap (λ l. l ++ replicate (length new - at) N) (f .done)
+    ∙ more-none (take from old) (at - from) (length new - at) (length old - from) (omega (arith, f .low, f .high, f .same))

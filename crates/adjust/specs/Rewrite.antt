@@ -1,9 +1,10 @@
 -- Records, runs and mentions rewritten by maps, for any words: what the definitions say of what is kept, said of the maps.
 -- Assumes nothing.
+use mathlib.Core.Path.{_≡_}
 use mathlib.Core.Bool.{Bool, false, not, cond}
 use mathlib.Core.List.{List, [], _∷_, _++_, map}
-use Prim.Native.Nat.{ℕ, suc, _+_, _*_, _/_, min}
-use lib.ListN.{length, getD, take, drop}
+use Prim.Native.Nat.{ℕ, suc, _+_, _-_, _*_, _/_, _<_, min}
+use lib.ListN.{length, getD, take, drop, replicate}
 use lib.Dec.{eqb}
 use Rattle.definitions.specs.Lists.{total, gather, always}
 use denote.Ref.{RefT}
@@ -56,6 +57,15 @@ typedBy due t e f k = lookup t (f k) ∷ initBy due e (f (suc k)) ∷ []
 unfoldable pub recordFrom : Maps → ℕ → (ℕ → ℕ) → ℕ → List Slot → Words
 recordFrom p b f k [] = []
 recordFrom p b f k (l ∷ ls) = adjustedBy p b l (f k) ∷ recordFrom p b f (suc k) ls
+
+-- an empty record: N in each of its words
+pub record Empty (r : Words) : Type 0 where
+  pub some : 0 < length r
+  pub all-none : r ≡ replicate (length r) N
+
+-- the words before a place, then N to their old end
+abbrev pub freedFrom : ℕ → Words → Words
+freedFrom i ws = take i ws ++ replicate (length ws - i) N
 
 -- how many records an arena's words make
 abbrev pub recordCount : Arena → Words → ℕ

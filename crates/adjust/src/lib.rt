@@ -9,16 +9,19 @@ ghost use Rattle.definitions.specs.Slots.{body, slots};
 ghost use Rattle.definitions.specs.Outcome.{mapOf};
 ghost use Rattle.definitions.specs.MapEntries.{lookup};
 ghost use Rattle.slots.specs.Codes.{arenaOf, slotOf, unpacked, wordsFrom};
-ghost use Rattle.adjust.specs.Rewrite.{mapsOf, mapsIn, keptBy, adjustedBy, recordFrom, initBy, typedBy, arenaBy, poolBy, runsBy, mentionsBy};
+ghost use Rattle.adjust.specs.Rewrite.{mapsOf, mapsIn, keptBy, Empty, freedFrom, adjustedBy, recordFrom, initBy, typedBy, arenaBy, poolBy, runsBy, mentionsBy};
 
 mod handles;
 
 use arena::Constant;
+use arena::Expression;
 use arena::ExpressionHandle;
 use arena::Global;
 use arena::Mention;
 use arena::N;
+use arena::Override;
 use arena::TAIL;
+use arena::Type;
 use arena::TypeHandle;
 use slots::Arena;
 use slots::Slot;
@@ -275,13 +278,52 @@ fn adjust_kept<'a>(
 }
 
 // N in every word.
-fn fill(ws: &mut [u32])
+fn pad(ws: &mut [u32])
     ensures { λ _. ⌜ now (ws .exit) ≡ replicate (length (now (ws .entry))) N ⌝ }
 {
     let mut i = 0;
     while i < ws.len() {
         ws[i] = N;
         i += 1;
+    }
+}
+
+// Words written at a place.
+fn write(ws: &mut [u32], at: usize, new: &[u32])
+    requires { ⌜ at + length (now new) ≤ length (now ws) ⌝ }
+    ensures { λ _. ⌜ now (ws .exit) ≡ sets (now (ws .entry)) at (now (new .entry)) ⌝ }
+{
+    let mut k = 0;
+    while k < new.len() {
+        ws[at + k] = new[k];
+        k += 1;
+    }
+}
+
+// An empty record again and again from a place on, as long as it fits, then N to the end.
+fn free(ws: &mut [u32], from: usize, empty: &[u32])
+    requires { ⌜ (from ≤ length (now ws)) × Empty (now empty) ⌝ }
+    ensures { λ _. ⌜ now (ws .exit) ≡ freedFrom from (now (ws .entry)) ⌝ }
+{
+    let mut at = from;
+    while empty.len() <= ws.len() - at {
+        write(ws, at, empty);
+        at += empty.len();
+    }
+    pad(&mut ws[at..]);
+}
+
+// The records of an area from a place on are freed: each is the area's empty record.
+fn free_records(area: u32, ws: &mut [u32], from: usize)
+    requires { ⌜ from ≤ length (now ws) ⌝ }
+    ensures { λ _. ⌜ now (ws .exit) ≡ freedFrom from (now (ws .entry)) ⌝ }
+{
+    match area {
+        0 => free(ws, from, &Type::empty()),
+        1 => free(ws, from, &Constant::empty()),
+        2 => free(ws, from, &Override::empty()),
+        3 => free(ws, from, &Global::empty()),
+        _ => free(ws, from, &Expression::empty()),
     }
 }
 
@@ -343,7 +385,7 @@ pub fn adjust_arena<'a>(
         from += width;
         h += 1;
     }
-    fill(&mut ws[to..]);
+    free_records(area, ws, to);
 }
 
 // A word of a run adjusted: a type's members are types, an expression's components expressions.
@@ -392,7 +434,7 @@ pub fn adjust_pool(area: u32, ws: &[u32], pool: &mut [u32], own: &[u32]) -> usiz
         at += width;
         h += 1;
     }
-    fill(&mut pool[to..]);
+    pad(&mut pool[to..]);
     to
 }
 

@@ -10,7 +10,6 @@ use Rattle.definitions.specs.Areas.{numbered}
 use Rattle.definitions.specs.Outcome.{mapOf}
 use Rattle.definitions.proofs.Reading.{width-pos}
 use Rattle.adjust.specs.Rewrite.{mapsOf}
-use Rattle.adjust.proofs.Stores.{tail-filled}
 use Rattle.adjust.proofs.Passes.{Rewriting, rewriting, within, record-dropped, record-kept, rewritten}
 use borrow.Author.Needs.{needs}
 use Rattle.adjust.proofs.adjust_arena.Statement.{statement}
@@ -89,20 +88,8 @@ loop-again c =
           (c .if1 .came),
     )
 
-mul-fill : tie.Need-mul-fill Inv-loop μ-loop
-mul-fill c = search needs
-
-sub-fill : tie.Need-sub-fill Inv-loop μ-loop
-sub-fill c = search needs
-
-part-fill-start : tie.Need-part-fill-start Inv-loop μ-loop
-part-fill-start c = search needs
-
-part-fill-end : tie.Need-part-fill-end Inv-loop μ-loop
-part-fill-end c = search needs
-
-fill-requires : tie.Need-fill-requires Inv-loop μ-loop
-fill-requires c κs = search needs
+free-records-requires : tie.Need-free-records-requires Inv-loop μ-loop
+free-records-requires c κs = search needs
 
 same-length : tie.Need-same-length Inv-loop μ-loop
 same-length c = search needs
@@ -110,7 +97,7 @@ same-length c = search needs
 returns : tie.Need-returns Inv-loop μ-loop
 returns c =
     let l = c .before .before .before .before .before .loop in
-    rewritten _ _ _ _ _ _ _ _ _ _ (c .before .before .before .before .before .before .before .before .arena-width .ensures) (omega arith) (l .inv .1) (tail-filled (l .ws) (l .to) _ (search needs) (c .before .before .fill .ensures))
+    rewritten _ _ _ _ _ _ _ _ _ _ (c .before .before .before .before .before .before .before .before .arena-width .ensures) (omega arith) (l .inv .1) (c .before .before .free-records .ensures)
 
 pub adjust-arena-spec : {M : Type 1} → statement M
 adjust-arena-spec =
@@ -132,10 +119,6 @@ adjust-arena-spec =
     add-h
     loop-less
     loop-again
-    mul-fill
-    sub-fill
-    part-fill-start
-    part-fill-end
-    fill-requires
+    free-records-requires
     same-length
     returns)

@@ -86,20 +86,20 @@ loop-again c =
           (c .before .if2 .came),
     )
 
-mul-fill : tie.Need-mul-fill Inv-loop μ-loop
-mul-fill c = search needs
+mul-pad : tie.Need-mul-pad Inv-loop μ-loop
+mul-pad c = search needs
 
-sub-fill : tie.Need-sub-fill Inv-loop μ-loop
-sub-fill c = search needs
+sub-pad : tie.Need-sub-pad Inv-loop μ-loop
+sub-pad c = search needs
 
-part-fill-start : tie.Need-part-fill-start Inv-loop μ-loop
-part-fill-start c = search needs
+part-pad-start : tie.Need-part-pad-start Inv-loop μ-loop
+part-pad-start c = search needs
 
-part-fill-end : tie.Need-part-fill-end Inv-loop μ-loop
-part-fill-end c = search needs
+part-pad-end : tie.Need-part-pad-end Inv-loop μ-loop
+part-pad-end c = search needs
 
-fill-requires : tie.Need-fill-requires Inv-loop μ-loop
-fill-requires c κs = search needs
+pad-requires : tie.Need-pad-requires Inv-loop μ-loop
+pad-requires c κs = search needs
 
 same-length : tie.Need-same-length Inv-loop μ-loop
 same-length c = search needs
@@ -108,7 +108,7 @@ returns : tie.Need-returns Inv-loop μ-loop
 returns c =
     let l = c .before .before .before .before .before .loop in
     let wide = c .before .before .before .before .before .before .arena-width .ensures in (
-      packed _ _ _ _ _ _ _ _ _ _ _ wide (omega arith) (l .inv .1) (tail-filled (l .pool) (l .to) _ (search needs) (c .before .before .fill .ensures)),
+      packed _ _ _ _ _ _ _ _ _ _ _ wide (omega arith) (l .inv .1) (tail-filled (l .pool) (l .to) _ (search needs) (c .before .before .pad .ensures)),
       packed-count _ _ _ _ _ _ _ _ _ _ wide (omega arith) (l .inv .1),
     )
 
@@ -133,10 +133,10 @@ adjust-pool-spec =
     add-h
     loop-less
     loop-again
-    mul-fill
-    sub-fill
-    part-fill-start
-    part-fill-end
-    fill-requires
+    mul-pad
+    sub-pad
+    part-pad-start
+    part-pad-end
+    pad-requires
     same-length
     returns)

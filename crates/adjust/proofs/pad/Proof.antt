@@ -1,4 +1,4 @@
--- `adjust::fill` meets its contract: after i turns the first i words are N.
+-- `adjust::pad` meets its contract: after i turns the first i words are N.
 -- Assumes nothing.
 use mathlib.Core.Path.{_≡_}
 use mathlib.Core.List.{_++_}
@@ -9,8 +9,8 @@ use borrow.Author.Fill.{fill-none, fill-more}
 use Rattle.definitions.specs.Areas.{N}
 use Rattle.adjust.proofs.Stores.{filled}
 use borrow.Author.Needs.{needs}
-use Rattle.adjust.proofs.fill.Statement.{statement}
-use Rattle.adjust.proofs.fill.Tie as tie
+use Rattle.adjust.proofs.pad.Statement.{statement}
+use Rattle.adjust.proofs.pad.Tie as tie
 
 abbrev Inv-loop : tie.InvT-loop
 Inv-loop ws₀ i₀ ws i = (i ≤ length ws₀) × (length ws ≡ length ws₀) × (ws ≡ replicate i N ++ drop i ws₀)
@@ -42,8 +42,8 @@ same-length c = search needs
 returns : tie.Need-returns Inv-loop μ-loop
 returns c = filled (c .before .before .args .ws .now) (c .before .loop .ws) (c .before .loop .i) (omega arith) (omega arith) (c .before .loop .inv .2)
 
-pub fill-spec : {M : Type 1} → statement M
-fill-spec =
+pub pad-spec : {M : Type 1} → statement M
+pad-spec =
     tie.close
     (tie.spec
     Inv-loop
