@@ -1,13 +1,36 @@
--- The contract of `cadnohal_compact` allows one outcome.
+-- Each contract allows one outcome. That of `cadnohal_lookup` is the contract of `handle_map::lookup`: `lookup-once` there.
 -- Assumes nothing.
-use mathlib.Core.Path.{_≡_, ap}
+use mathlib.Core.Path.{_≡_, ap, sym, _∙_}
+use mathlib.Core.List.{List}
+use Prim.Native.Nat.{ℕ}
 use lib.ListN.{getD}
-use Rattle.definitions.specs.Areas.{Areas}
+use Rattle.definitions.specs.Areas.{Words, Areas}
+use Rattle.definitions.specs.Refusals.{check, reported}
 use Rattle.definitions.specs.Outcome.{Maps}
+use Rattle.definitions.specs.MapEntries.{adjust, range}
+use Rattle.arena.proofs.Once.{equal-once}
 use Rattle.cadnohal.specs.declared.Answer.{Answer}
-use Rattle.cadnohal.specs.Boundary.{outcomeIn}
+use Rattle.cadnohal.specs.declared.AdjustedAnswer.{AdjustedAnswer}
+use Rattle.cadnohal.specs.declared.RangeAnswer.{RangeAnswer}
+use Rattle.cadnohal.specs.Boundary.{answerTo, outcomeIn, adjustedIn, rangedIn}
 
--- two answers with all lent words that make the same outcome are one
+-- `cadnohal_check`
+pub check-once : (s : Areas) (maps : List ℕ) {r q : Answer} → r ≡ answerTo (reported (check s maps)) → q ≡ answerTo (reported (check s maps)) → r ≡ q
+check-once s maps a b = equal-once a b
+
+-- `cadnohal_adjust`
+pub adjust-once : (map : Words) (h : ℕ) {r q : AdjustedAnswer} → adjustedIn r ≡ adjust map h → adjustedIn q ≡ adjust map h → r ≡ q
+adjust-once map h a b = λ i.
+    let e = a ∙ sym b in
+    record { number = ap (λ x. x .number) e i; handle = ap (λ x. x .handle) e i }
+
+-- `cadnohal_adjust_range`
+pub adjust-range-once : (map : Words) (start end : ℕ) {r q : RangeAnswer} → rangedIn r ≡ range map start end → rangedIn q ≡ range map start end → r ≡ q
+adjust-range-once map start end a b = λ i.
+    let e = a ∙ sym b in
+    record { number = ap (λ x. x .number) e i; start = ap (λ x. x .start) e i; end = ap (λ x. x .end) e i }
+
+-- `cadnohal_compact`: two answers with all lent words that make the same outcome are one
 pub boundary-once : (a b : Answer) (s s′ : Areas) (p p′ : Maps) → outcomeIn a s p ≡ outcomeIn b s′ p′ → (a ≡ b) × (s ≡ s′) × (p ≡ p′)
 boundary-once a b s s′ p p′ e = (words, ap (λ o. o .areas) e, ap (λ o. o .maps) e)
   where

@@ -5,7 +5,7 @@ use mathlib.Core.List.{[], _∷_}
 use Prim.Native.Nat.{ℕ}
 use lib.Dec.{eqb}
 use Rattle.definitions.specs.Areas.{Areas}
-use Rattle.definitions.specs.Refusals.{Verdict, accepted, refused}
+use Rattle.definitions.specs.Refusals.{Report}
 use Rattle.definitions.specs.Outcome.{Maps, Outcome}
 use Rattle.definitions.specs.MapEntries as Entries
 use Rattle.compact.specs.declared.Compacted.{Compacted}
@@ -34,10 +34,9 @@ placed nr a h =
       components = 0;
     }
 
--- the verdict of the check: 0 0 0 where the module is accepted
-abbrev pub answerTo : Verdict → Answer
-answerTo accepted = placed 0 0 0
-answerTo (refused nr a h) = placed nr a h
+-- what the check reports
+abbrev pub answerTo : Report → Answer
+answerTo r = placed (r .number) (r .area) (r .recordNumber)
 
 -- the answer of `compact`
 abbrev pub answerOf : Compacted → Answer

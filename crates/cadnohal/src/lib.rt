@@ -3,11 +3,11 @@ ghost use mathlib.Core.Path.{_≡_};
 ghost use mathlib.Core.List.{[], _∷_};
 ghost use lib.ListN.{length};
 ghost use Rattle.definitions.specs.Areas.{areasOf};
-ghost use Rattle.definitions.specs.Refusals.{check};
+ghost use Rattle.definitions.specs.Refusals.{check, reported};
 ghost use Rattle.definitions.specs.Outcome.{outcome};
 ghost use Rattle.definitions.specs.MapEntries.{lookup, adjust, range};
 ghost use Rattle.adjust.specs.Rewrite.{mapsOf};
-ghost use Rattle.faults.specs.Checking.{verdictOf};
+ghost use Rattle.faults.specs.Checking.{reportOf};
 ghost use Rattle.compact.specs.Answer.{keepOf};
 ghost use Rattle.cadnohal.specs.Boundary.{keepWord, placed, answerOf, answerTo, outcomeIn, adjustedIn, rangedIn};
 use arena::N;
@@ -98,7 +98,7 @@ fn of_compacted(r: Compacted) -> Answer
 
 // What `faults::check` answered, in ten words.
 fn of_verdict(v: Verdict) -> Answer
-    ensures { λ a. ⌜ a ≡ answerTo (verdictOf v) ⌝ }
+    ensures { λ a. ⌜ a ≡ answerTo (reportOf v) ⌝ }
 {
     match v {
         Verdict::Accepted => refusal(0, 0, 0),
@@ -162,7 +162,7 @@ pub extern "C" fn cadnohal_check<'a>(
     global_map: &'a [u32],
     expression_map: &'a [u32],
 ) -> Answer
-    ensures { λ r. ⌜ r ≡ answerTo (check (areasOf (now (types .entry)) (now (constants .entry)) (now (overrides .entry)) (now (globals .entry)) (now (expressions .entry)) (now (members .entry)) (now (components .entry)) (now (mentions .entry))) (length (now («type_map» .entry)) ∷ length (now («constant_map» .entry)) ∷ length (now («override_map» .entry)) ∷ length (now («global_map» .entry)) ∷ length (now («expression_map» .entry)) ∷ [])) ⌝ }
+    ensures { λ r. ⌜ r ≡ answerTo (reported (check (areasOf (now (types .entry)) (now (constants .entry)) (now (overrides .entry)) (now (globals .entry)) (now (expressions .entry)) (now (members .entry)) (now (components .entry)) (now (mentions .entry))) (length (now («type_map» .entry)) ∷ length (now («constant_map» .entry)) ∷ length (now («override_map» .entry)) ∷ length (now («global_map» .entry)) ∷ length (now («expression_map» .entry)) ∷ []))) ⌝ }
 {
     let v = faults::check(
         types,

@@ -13,7 +13,7 @@ use Rattle.definitions.specs.Lists.{total, gather}
 use Rattle.definitions.specs.Areas.{Words, Areas, Arena, types, constants, overrides, globals, expressions, areasOf, Elem, at, numbered, size, width, words, pool, recordsOf, lengthOf, allWords, widths, limits}
 use Rattle.definitions.specs.References.{span}
 use Rattle.definitions.specs.Sweep.{kept}
-use Rattle.definitions.specs.Refusals.{runsBefore, check, check3, passes}
+use Rattle.definitions.specs.Refusals.{runsBefore, check, check3, passes, reported}
 use Rattle.definitions.specs.Numbering.{rank, newHandle, mapUpTo, isKept, mapAfter}
 use Rattle.definitions.specs.Records.{startAfter, runsUpTo, keptAreas, areasAfter}
 use Rattle.definitions.specs.Outcome.{Maps, mapOf, lengths, keptCounts, mapsAfter, outcomeOf, outcome}
@@ -31,7 +31,8 @@ use Rattle.arena.specs.Marks.{Marks}
 use Rattle.handle_map.specs.FromSet.{inSet, mapped}
 use Rattle.adjust.specs.Rewrite.{mapsOf, arenaBy, runsBy, poolBy, mentionsBy}
 use Rattle.adjust.proofs.Laws.{runs-after, areas-after}
-use Rattle.faults.specs.Checking.{verdictOf}
+use Rattle.faults.specs.Checking.{reportOf, verdictOf}
+use Rattle.faults.proofs.Once.{verdict-told}
 use Rattle.faults.specs.declared.Verdict.{Verdict}
 use Rattle.faults.specs.declared.Fault.{Fault}
 use Rattle.faults.specs.declared.Verdict.the-variants as verdict
@@ -101,17 +102,18 @@ map-room s p t a = go a (areas-all 3 _ 5 (parts _ t .1 .1 .0))
 
 -- ---- a refusal
 
-pub refused-closes : (s : Areas) (p : Maps) (keep : Bool) (v : Verdict) {f : Fault} → verdictOf v ≡ check s (lengths p) → v ≡ verdict.Refused f
+pub refused-closes : (s : Areas) (p : Maps) (keep : Bool) (v : Verdict) {f : Fault} → reportOf v ≡ reported (check s (lengths p)) → v ≡ verdict.Refused f
     → Compacts s p keep (Refused f) s p
 unfolding outcome outcomeOf passes
 refused-closes s p keep v e q =
-    record { verdict = ap passes (sym (ap verdictOf q) ∙ e); outcome-is = ap (outcomeOf s p (kept s keep)) (sym (ap verdictOf q) ∙ e) }
+    let t = sym (ap verdictOf q) ∙ verdict-told v (check s (lengths p)) e in
+    record { verdict = ap passes t; outcome-is = ap (outcomeOf s p (kept s keep)) t }
 
 -- ---- an accepted module
 
-pub passed : (s : Areas) (p : Maps) (v : Verdict) → verdictOf v ≡ check s (lengths p) → v ≡ verdict.Accepted → T (passes (check s (lengths p)))
+pub passed : (s : Areas) (p : Maps) (v : Verdict) → reportOf v ≡ reported (check s (lengths p)) → v ≡ verdict.Accepted → T (passes (check s (lengths p)))
 unfolding passes
-passed s p v e q = subst (λ r. T (passes r)) (sym (ap verdictOf q) ∙ e) tt
+passed s p v e q = subst (λ r. T (passes r)) (sym (ap verdictOf q) ∙ verdict-told v (check s (lengths p)) e) tt
 
 -- the bases made of the sizes
 pub bases-due : (s : Areas) (z : Sizes) (b : Bases) → z ≡ sizesOf s → b ≡ basesOf (z .types) (z .constants) (z .overrides) (z .globals) (z .expressions)

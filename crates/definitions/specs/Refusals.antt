@@ -13,10 +13,22 @@ use Rattle.definitions.specs.References.{span, run}
 use Rattle.definitions.specs.Roots.{mention}
 use Rattle.definitions.specs.Order.{wellOrdered}
 
--- "It reports number, area, record."
+-- a refusal's number, area, record
 pub data Verdict : Type 0 where
   accepted : Verdict
   refused : ℕ → ℕ → ℕ → Verdict
+
+-- "It reports number, area, record."
+pub record Report : Type 0 where
+  pub passed : Bool
+  pub number : ℕ
+  pub area : ℕ
+  pub recordNumber : ℕ
+
+-- "Accepted: number, area and record are 0."
+abbrev pub reported : Verdict → Report
+reported accepted = record { passed = true; number = 0; area = 0; recordNumber = 0 }
+reported (refused nr a h) = record { passed = false; number = nr; area = a; recordNumber = h }
 
 unfoldable pub passes : Verdict → Bool
 passes accepted = true

@@ -12,13 +12,13 @@ use lib.ListN.{length, getD}
 use borrow.Author.Tests.{lt-ltb, le-ltb}
 use Rattle.definitions.specs.Lists.{all}
 use Rattle.definitions.specs.Areas.{Areas, areaNumber, numbered, widths, limits, lengthOf, allWords, recordsOf}
-use Rattle.definitions.specs.Refusals.{Verdict, accepted, passes, scan, scanAreas, scanRecords, scanMentions, poolUsed, check1, check2, check3, check4, check5, check6, check7, check}
+use Rattle.definitions.specs.Refusals.{Verdict, accepted, passes, reported, scan, scanAreas, scanRecords, scanMentions, poolUsed, check1, check2, check3, check4, check5, check6, check7, check}
 use Rattle.definitions.proofs.Judged.{all-at}
 use Rattle.definitions.proofs.Accepted.{areas-all}
 use Rattle.faults.specs.declared.Fault.{Fault}
 use Rattle.faults.specs.declared.Verdict as code
 use Rattle.faults.specs.declared.Verdict.the-variants.{Accepted, Refused}
-use Rattle.faults.specs.Checking.{verdictOf, areaOk, areasAt, inTurn, scanArea, okAt, ok4, ok6, ownerOf, looksAt, placesIn, Measured}
+use Rattle.faults.specs.Checking.{reportOf, verdictOf, areaOk, areasAt, inTurn, scanArea, okAt, ok4, ok6, ownerOf, looksAt, placesIn, Measured}
 use Rattle.faults.proofs.Scans.{first-on, first-stop, turn-open, turn-end, turns-accepted, none, also, skipped, last}
 
 -- the lengths of the eight areas
@@ -110,16 +110,17 @@ module _ (s : Areas) (maps : List ℕ) where
         }
 
     -- one refuses
-    pub stops : {v : code.Verdict} {f : Fault} → n < 8 → verdictOf v ≡ stage n → v ≡ Refused f → verdictOf (Refused f) ≡ check s maps
-    stops l e q = sym (turn-open stage n 8 l ∙ first-stop _ (sym e ∙ ap verdictOf q)) ∙ h .left
+    pub stops : {v : code.Verdict} {f : Fault} → n < 8 → verdictOf v ≡ stage n → v ≡ Refused f → reportOf (Refused f) ≡ reported (check s maps)
+    stops l e q = ap reported (sym (turn-open stage n 8 l ∙ first-stop _ (sym e ∙ ap verdictOf q)) ∙ h .left)
 
     -- none is left
-    pub ends : 8 ≤ n → accepted ≡ check s maps
-    ends l = sym (turn-end stage n 8 l) ∙ h .left
+    pub ends : 8 ≤ n → reportOf Accepted ≡ reported (check s maps)
+    ends l = ap reported (sym (turn-end stage n 8 l) ∙ h .left)
 
     -- none of those that are left refuses
-    pub rest-accept : 4 ≤ n → n < 8 → ((k : ℕ) → 4 ≤ k → k < 8 → inTurn (scanArea s k) 0 8 ≡ accepted) → accepted ≡ check s maps
-    rest-accept l o f = sym (turns-accepted stage n (8 - n) (λ k a b. sym (by-places k (omega arith) (sym (f k (omega arith) (omega arith)))))) ∙ h .left
+    pub rest-accept : 4 ≤ n → n < 8 → ((k : ℕ) → 4 ≤ k → k < 8 → inTurn (scanArea s k) 0 8 ≡ accepted) → reportOf Accepted ≡ reported (check s maps)
+    rest-accept l o f =
+        ap reported (sym (turns-accepted stage n (8 - n) (λ k a b. sym (by-places k (omega arith) (sym (f k (omega arith) (omega arith)))))) ∙ h .left)
 
     -- what numbers 1 and 2 leave
     pub measured : 4 ≤ n → Measured s

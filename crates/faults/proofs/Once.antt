@@ -1,23 +1,39 @@
--- The public contract allows one outcome.
+-- The public contract allows one outcome, and tells which verdict the code's is.
 -- Assumes nothing.
-use mathlib.Core.Path.{_≡_, refl, sym, _∙_}
-use Prim.Native.Nat.{ℕ}
-use native.Mathlib.Omega.{arith}
+use mathlib.Core.Path.{_≡_, refl, sym, ap, _∙_}
+use mathlib.Core.Bool.{cond}
 use Rattle.definitions.specs.Refusals as R
+use Rattle.definitions.specs.Refusals.{accepted, refused, reported}
 use Rattle.faults.specs.declared.Verdict.{Verdict}
 use Rattle.faults.specs.declared.Verdict.the-variants.{Accepted, Refused}
-use Rattle.faults.specs.Checking.{verdictOf}
+use Rattle.faults.specs.Checking.{reportOf, verdictOf}
 
-same-verdict : (r r′ : Verdict) → verdictOf r ≡ verdictOf r′ → r ≡ r′
-same-verdict Accepted Accepted e = refl
-same-verdict Accepted (Refused f) e = absurd (let z : _≡_ {A = ℕ} 0 1 = cc in omega arith)
-same-verdict (Refused f) Accepted e = absurd (let z : _≡_ {A = ℕ} 0 1 = cc in omega arith)
-same-verdict (Refused f) (Refused g) e =
-    let n : f .number ≡ g .number = cc in
-    let a : f .area ≡ g .area = cc in
-    let h : f .«record» ≡ g .«record» = cc in
-    λ i. Refused (record { number = n i; area = a i; «record» = h i })
+-- a report read back, as either verdict
+code-of : R.Report → Verdict
+code-of x = cond (x .passed) Accepted (Refused (record { number = x .number; area = x .area; «record» = x .recordNumber }))
+
+read : R.Report → R.Verdict
+read x = cond (x .passed) accepted (refused (x .number) (x .area) (x .recordNumber))
+
+code-same : (r : Verdict) → code-of (reportOf r) ≡ r
+unfolding code-of
+code-same Accepted = refl
+code-same (Refused f) = refl
+
+verdict-same : (r : Verdict) → read (reportOf r) ≡ verdictOf r
+unfolding read
+verdict-same Accepted = refl
+verdict-same (Refused f) = refl
+
+read-same : (v : R.Verdict) → read (reported v) ≡ v
+unfolding read
+read-same accepted = refl
+read-same (refused nr a h) = refl
 
 -- `check`
-pub verdict-once : {w : R.Verdict} (r r′ : Verdict) → verdictOf r ≡ w → verdictOf r′ ≡ w → r ≡ r′
-verdict-once r r′ p q = same-verdict r r′ (p ∙ sym q)
+pub verdict-once : {w : R.Report} (r q : Verdict) → reportOf r ≡ w → reportOf q ≡ w → r ≡ q
+verdict-once r q a b = sym (code-same r) ∙ ap code-of (a ∙ sym b) ∙ code-same q
+
+-- the verdict that was reported
+pub verdict-told : (r : Verdict) (v : R.Verdict) → reportOf r ≡ reported v → verdictOf r ≡ v
+verdict-told r v e = sym (verdict-same r) ∙ ap read e ∙ read-same v

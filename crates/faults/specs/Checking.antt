@@ -22,7 +22,12 @@ use Rattle.arena.specs.Sizes.{sizesOf}
 use Rattle.arena.specs.declared.sizes.Sizes.{Sizes}
 use Rattle.rules.specs.Rules.{sizeIn, leading}
 
--- the verdict of document 01 that the code's is: number, area, record
+-- the number and the values of each case of the answer
+abbrev pub reportOf : Verdict → R.Report
+reportOf Accepted = record { passed = true; number = 0; area = 0; recordNumber = 0 }
+reportOf (Refused f) = record { passed = false; number = f .number; area = f .area; recordNumber = f .record }
+
+-- the verdict of document 01 that it is
 abbrev pub verdictOf : Verdict → R.Verdict
 verdictOf Accepted = accepted
 verdictOf (Refused f) = refused (f .number) (f .area) (f .record)

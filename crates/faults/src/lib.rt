@@ -7,8 +7,8 @@ ghost use mathlib.Core.Path.{_≡_};
 ghost use mathlib.Core.List.{[], _∷_};
 ghost use lib.ListN.{length};
 ghost use Rattle.definitions.specs.Areas.{areasOf};
-ghost use Rattle.definitions.specs.Refusals.{check};
-ghost use Rattle.faults.specs.Checking.{verdictOf};
+ghost use Rattle.definitions.specs.Refusals.{check, reported};
+ghost use Rattle.faults.specs.Checking.{reportOf};
 
 // Where a module breaks which rule.
 pub struct Fault {
@@ -38,9 +38,9 @@ pub fn check<'a>(
     global_map: &'a [u32],
     expression_map: &'a [u32],
 ) -> Verdict
-    ensures { λ r. ⌜ verdictOf r ≡ check
+    ensures { λ r. ⌜ reportOf r ≡ reported (check
         (areasOf (now (types .entry)) (now (constants .entry)) (now (overrides .entry)) (now (globals .entry)) (now (expressions .entry)) (now (members .entry)) (now (components .entry)) (now (mentions .entry)))
-        (length (now («type_map» .entry)) ∷ length (now («constant_map» .entry)) ∷ length (now («override_map» .entry)) ∷ length (now («global_map» .entry)) ∷ length (now («expression_map» .entry)) ∷ []) ⌝ }
+        (length (now («type_map» .entry)) ∷ length (now («constant_map» .entry)) ∷ length (now («override_map» .entry)) ∷ length (now («global_map» .entry)) ∷ length (now («expression_map» .entry)) ∷ [])) ⌝ }
 {
     let lengths = [
         types.len(),

@@ -1,5 +1,5 @@
 use mathlib.Core.Path.{ap, sym, _∙_}
-use Rattle.faults.specs.Checking.{verdictOf}
+use Rattle.faults.specs.Checking.{reportOf}
 use Rattle.cadnohal.specs.Boundary.{answerTo}
 use borrow.Author.Needs.{needs}
 use Rattle.cadnohal.proofs.of_verdict.Statement.{statement}
@@ -26,11 +26,11 @@ refusal-requires-2 c κs = search needs
 
 -- src/lib.rt:101:1
 returns : tie.Need-returns
-returns c = c .refusal .ensures ∙ sym (ap (λ v. answerTo (verdictOf v)) (c .before .enum-told .given .1))
+returns c = c .refusal .ensures ∙ sym (ap (λ v. answerTo (reportOf v)) (c .before .enum-told .given .1))
 
 -- src/lib.rt:101:1
 returns-2 : tie.Need-returns-2
-returns-2 c = c .refusal2 .ensures ∙ sym (ap (λ v. answerTo (verdictOf v)) (c .before .before .v .given .1))
+returns-2 c = c .refusal2 .ensures ∙ sym (ap (λ v. answerTo (reportOf v)) (c .before .before .v .given .1))
 
 pub of-verdict-spec : {M : Type 1} → statement M
 of-verdict-spec =
