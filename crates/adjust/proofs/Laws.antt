@@ -8,13 +8,13 @@ use native.Mathlib.Nat.{le-refl, le-trans, add-zero, mul-zero, div-one, div-add-
 use native.Mathlib.Omega.{arith}
 use lib.Dec.{T, eqb, eqb→eq, leb→le, lit<}
 use lib.ListN.{length, getD, take, drop, List·getD-append, drop-of-length-le}
-use borrow.Author.Tests.{ne-eqb, eqb-true, eqb-false}
+use borrow.Author.Tests.{ne-eqb, eqb-false}
 use Rattle.definitions.specs.Lists.{total, gather, always, all}
 use Rattle.definitions.specs.Areas.{Words, N, Arena, types, constants, overrides, globals, expressions, Areas, areasOf, Elem, at, numbered, words, size, word, pool, recordsOf, lengthOf, allWords, widths, limits, mentionCount, mentionWord}
 use Rattle.definitions.specs.Slots.{Slot, unused, free, below, must, may, start, count, layout}
 use Rattle.definitions.specs.References.{hasRun, span, run}
 use Rattle.definitions.specs.Roots.{mention}
-use Rattle.definitions.specs.Refusals.{every, held, heldAt, inside as test, runsBefore, shaped}
+use Rattle.definitions.specs.Refusals.{every, held, heldAt, inside as test, runsBefore}
 use Rattle.definitions.specs.Numbering.{rank, newHandle, mapUpTo, isKept, mapAfter}
 use Rattle.definitions.specs.Records.{startAfter, adjusted, adjustedFrom, recordAfter, recordsUpTo, runsUpTo, mentionAfter, mentionsUpTo, keptAreas, padded, areasAfter}
 use Rattle.definitions.specs.Outcome.{Maps, mapOf, mapsAfter}
@@ -23,9 +23,9 @@ use Rattle.definitions.proofs.Least.{and-left, and-right, Within}
 use Rattle.definitions.proofs.Accepted.{Sound, size-few}
 use Rattle.definitions.proofs.Kept.{SlotHolds, EachSlot, Inside, inside-lt, slots-inside}
 use Rattle.definitions.proofs.ListLaws.{total-any, total-mono, total-cong, total-scale, length-gather, gather-word}
-use Rattle.definitions.proofs.Places.{new-dropped, rank-le}
+use Rattle.definitions.proofs.Places.{rank-le}
 use Rattle.definitions.proofs.Counts.{map-length}
-use Rattle.definitions.proofs.Reading.{run-eq, no-span, shaped-slot, length-layout, start-slot, run-wide}
+use Rattle.definitions.proofs.Reading.{run-there}
 use Rattle.slots.proofs.Laws.{span-in}
 use Rattle.adjust.specs.Rewrite.{runsBy, keptBy, adjustedBy, recordFrom, spanOf, startBy, recordBy, arenaBy, runBy, poolBy, mentionBy, mentionsBy}
 
@@ -115,21 +115,6 @@ module _ (s : Areas) (m : List Elem) (p : Maps) where
 
     -- ---- the pools
 
-    -- a run begins where those before it end
-    run-is : (a : Arena) (h : ℕ) → h < size s a → run s a h ≡ take (span s a h) (drop (runsBefore s a h) (pool s a))
-    unfolding shaped
-    run-is a h l = run-eq s a h ∙ go (hasRun s a h) refl
-      where
-        go : (b : Bool) → hasRun s a h ≡ b → take (span s a h) (drop (word s a h 2) (pool s a)) ≡ take (span s a h) (drop (runsBefore s a h) (pool s a))
-        go true e =
-            let t : T (hasRun s a h) = subst T (sym e) tt in
-            let n : 2 < length (layout s a h) = subst (λ k. 2 < k) (sym (length-layout s m a h)) (le-trans (lit< tt) (run-wide s m a h t)) in
-            ap (λ k. take (span s a h) (drop k (pool s a)))
-            (eqb→eq (word s a h 2) (runsBefore s a h)
-            (and-left (eqb (word s a h 2) (runsBefore s a h)) _
-            (subst (λ x. T (shaped s a h x (word s a h 2))) (start-slot s m a h t) (shaped-slot s a h (c .shapes a h l) 2 n))))
-        go false e = rw (no-span s a h e)
-
     -- each of its handles is inside
     map-places : (a : Arena) (ws : Words) → T (all (λ w. test s (at a w)) ws) → map (lookup (mapOf maps a)) ws ≡ map (newHandle (isKept m a)) ws
     unfolding all
@@ -143,7 +128,7 @@ module _ (s : Areas) (m : List Elem) (p : Maps) where
     run-after a h l =
         ap₂ (λ n k. map (lookup (mapOf maps a)) (take n (drop k (pool s a)))) (span-is a h)
         (total-same always always _ _ h (λ i k. refl) (λ i k. span-is a i))
-        ∙ ap (map (lookup (mapOf maps a))) (sym (run-is a h l))
+        ∙ ap (map (lookup (mapOf maps a))) (sym (run-there s m c a h l))
         ∙ map-places a (run s a h) (and-right (every (held s) (word s a h) 0 (layout s a h)) (all (λ w. test s (at a w)) (run s a h)) (c .holds a h l))
 
     -- the runs of the kept records

@@ -1,12 +1,13 @@
 -- The passes over an arena, a pool and the mentions, in place: where each stands after some turns, what a turn adds, and what is left at the end.
 -- Assumes nothing.
-use mathlib.Core.Path.{_≡_, refl, sym, ap, ap₂, _∙_}
+use mathlib.Core.Path.{_≡_, refl, sym, ap, ap₂, subst, _∙_}
 use mathlib.Core.Bool.{Bool, true, false}
 use mathlib.Core.List.{List, [], _∷_, _++_, map, append-assoc}
 use Prim.Native.Nat.{ℕ, zero, suc, _+_, _*_, _/_, _-_, _≤_, _<_, min}
 use native.Mathlib.Nat.{add-zero, zero-mul, suc-mul, mul-le-mul-right, div-mul-le-self, zero-min, suc-min-suc}
 use native.Mathlib.Numerals.{add-one}
 use native.Mathlib.Omega.{arith}
+use lib.Dec.{T}
 use lib.ListN.{length, getD, take, drop, set, replicate, length-append, length-set, length-map, length-drop}
 use lib.Seq.{sets, getD-drop, getD-append-add, drop-cons, set-at, take-nil, drop-nil, length-take-le}
 use Rattle.definitions.specs.Lists.{total, gather, always}
@@ -15,19 +16,11 @@ use Rattle.definitions.specs.Slots.{Slot, slots}
 use Rattle.definitions.specs.Records.{padded}
 use Rattle.definitions.specs.Outcome.{Maps, mapOf}
 use Rattle.definitions.specs.MapEntries.{lookup}
+use Rattle.definitions.proofs.ListLaws.{total-step, total-skip}
 use Rattle.definitions.proofs.Reading.{length-slots}
 use Rattle.slots.specs.Codes.{spanIn, wordsFrom}
 use Rattle.adjust.specs.Rewrite.{runsBy, keptBy, recordFrom, spanOf, startBy, recordBy, arenaBy, runBy, poolBy, mentionBy, mentionsBy}
 use Rattle.adjust.proofs.Stores.{Partly, begun, dropped, moved, ended}
-
--- one more of a sum
-total-kept : (p : ℕ → Bool) (g : ℕ → ℕ) (h : ℕ) → p h ≡ true → total p g (h + 1) ≡ total p g h + g h
-unfolding total
-total-kept p g h e = rw (add-one h, e)
-
-total-dropped : (p : ℕ → Bool) (g : ℕ → ℕ) (h : ℕ) → p h ≡ false → total p g (h + 1) ≡ total p g h
-unfolding total
-total-dropped p g h e = rw (add-one h, e)
 
 -- words that agree from a place on agree as a record there
 same-words : (new old : Words) (from : ℕ) → drop from new ≡ drop from old → wordsFrom new from ≡ wordsFrom old from
@@ -71,7 +64,7 @@ module _ (p : Maps) (a : Arena) (old : Words) (w : ℕ) where
           let e : keptBy (mapOf p a) h ≡ false = ap (λ m. keptBy m h) (sym mine) ∙ d in
           record {
             at = next-at from h w (r .at);
-            start-is = t ∙ r .start-is ∙ ap (λ n. min n N) (sym (total-dropped (keptBy (mapOf p a)) (spanOf a old) h e));
+            start-is = t ∙ r .start-is ∙ ap (λ n. min n N) (sym (total-skip (keptBy (mapOf p a)) (spanOf a old) h e) ∙ ap (total (keptBy (mapOf p a)) (spanOf a old)) (sym (add-one h)));
             part = rw (q, u) (dropped _ _ _ _ _ _ _ w (within from h w (length old) (r .at) l) (r .part) e);
           }
 
@@ -95,7 +88,8 @@ module _ (p : Maps) (a : Arena) (old : Words) (w : ℕ) where
       record-kept new′ start′ to′ span d s q t u =
           let e : keptBy (mapOf p a) h ≡ true = ap (λ m. keptBy m h) (sym mine) ∙ d in
           let n : span ≡ spanOf a old h = s ∙ ap (spanIn a) words-are in
-          let m : total (keptBy (mapOf p a)) (spanOf a old) (h + 1) ≡ total (keptBy (mapOf p a)) (spanOf a old) h + spanOf a old h = total-kept _ _ h e in
+          let m : total (keptBy (mapOf p a)) (spanOf a old) (h + 1) ≡ total (keptBy (mapOf p a)) (spanOf a old) h + spanOf a old h =
+          ap (total (keptBy (mapOf p a)) (spanOf a old)) (add-one h) ∙ total-step (keptBy (mapOf p a)) (spanOf a old) h (subst T (sym e) tt) in
           record {
             at = next-at from h w (r .at);
             start-is = omega (arith, r .start-is);
@@ -144,7 +138,7 @@ module _ (own : Words) (a : Arena) (ws old : Words) (w : ℕ) where
           held ∙ ap₂ min (counted ∙ ap (spanIn a) (ap (wordsFrom ws) (r .at-is) ∙ ap (λ n. wordsFrom ws (h * n)) wide)) (sym (length-drop from old))
 
       from-next : from + span ≡ min (total always (spanOf a ws) (h + 1)) (length old)
-      from-next = omega (arith, span-is, length-drop from old, r .from-is, total-kept always (spanOf a ws) h refl)
+      from-next = omega (arith, span-is, length-drop from old, r .from-is, ap (total always (spanOf a ws)) (add-one h) ∙ total-step always (spanOf a ws) h tt)
 
       run-is : map (lookup own) (take span (drop from new)) ≡ runBy own a ws old h
       unfolding runBy

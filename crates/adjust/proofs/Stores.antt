@@ -13,6 +13,7 @@ use borrow.Rule.Slice.PartMut.{putMid, midOf, postOf}
 use Rattle.definitions.specs.Lists.{gather}
 use Rattle.definitions.specs.Areas.{Words, N}
 use Rattle.definitions.specs.Records.{padded}
+use Rattle.definitions.proofs.ListLaws.{gather-step, gather-skip}
 use Rattle.adjust.specs.Rewrite.{Empty, freedFrom}
 
 -- ---- one after another
@@ -78,14 +79,6 @@ module _ (p : ℕ → Bool) (f : ℕ → Words) (old : Words) where
   unfolding gather
   begun = record { low = omega arith; high = omega arith; same = refl; done = refl; rest = refl }
 
-  gather-kept : (h : ℕ) → p h ≡ true → gather p f (h + 1) ≡ gather p f h ++ f h
-  unfolding gather
-  gather-kept h e = rw (add-one h, e)
-
-  gather-dropped : (h : ℕ) → p h ≡ false → gather p f (h + 1) ≡ gather p f h
-  unfolding gather
-  gather-dropped h e = rw (add-one h, e) (append-nil (gather p f h))
-
   module _ (new : Words) (from to h n : ℕ) (fits : from + n ≤ length old) (part : Partly new from to h) where
     pub dropped : p h ≡ false → Partly new (from + n) to (h + 1)
     dropped e =
@@ -93,7 +86,7 @@ module _ (p : ℕ → Bool) (f : ℕ → Words) (old : Words) where
           low = omega (arith, part .low);
           high = fits;
           same = part .same;
-          done = part .done ∙ sym (gather-dropped h e);
+          done = part .done ∙ sym (gather-skip p f h e) ∙ ap (gather p f) (sym (add-one h));
           rest = drop-more from n new old (part .rest);
         }
 
@@ -107,7 +100,7 @@ module _ (p : ℕ → Bool) (f : ℕ → Words) (old : Words) where
           same = ap length q ∙ length-sets new to (f h) ∙ part .same;
           done =
               ap (λ k. take k new′) all ∙ ap (take (to + length (f h))) q ∙ take-sets new to (f h) room ∙ ap (λ l. l ++ f h) (part .done)
-              ∙ sym (gather-kept h e);
+              ∙ sym (gather-step p f h e) ∙ ap (gather p f) (sym (add-one h));
           rest = ap (drop (from + n)) q ∙ drop-sets (f h) new to (from + n) (omega (arith, part .low)) ∙ drop-more from n new old (part .rest);
         }
 

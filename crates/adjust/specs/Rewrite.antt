@@ -1,4 +1,4 @@
--- Records, runs and mentions rewritten by maps, for any words: what the definitions say of what is kept, said of the maps.
+-- Records, runs and mentions rewritten by maps, for any words: what the definitions say of the kept, said of the maps.
 -- Assumes nothing.
 use mathlib.Core.Path.{_≡_}
 use mathlib.Core.Bool.{Bool, false, not, cond}
@@ -109,4 +109,5 @@ mentionBy p ws h = mentionAt ws h 0 ∷ lookup (mapOf p (numbered (mentionAt ws 
 
 -- the mentions after, adjusted in place; a word past the last mention stays
 unfoldable pub mentionsBy : Maps → Words → Words
-mentionsBy p ws = gather always (mentionBy p ws) (length ws / mentionWidth) ++ drop (length ws / mentionWidth * mentionWidth) ws
+mentionsBy p ws =
+    gather always (mentionBy p ws) (length ws / mentionWidth) ++ drop (length ws / mentionWidth * mentionWidth) ws

@@ -80,7 +80,8 @@ pub fn word_after<'a>(
     expression_map: &'a [u32],
 ) -> u32
     ensures { λ r. ⌜ r ≡
-        lookup (mapOf (mapsIn «type_map» «constant_map» «override_map» «global_map» «expression_map») (arenaOf arena)) w ⌝ }
+        lookup (mapOf (mapsIn «type_map» «constant_map» «override_map» «global_map» «expression_map»)
+        (arenaOf arena)) w ⌝ }
 {
     element_after(
         slots::element(arena, w),

@@ -1,6 +1,6 @@
 // Rewriting by the maps: records, pools and mentions in place, what was kept closed up, then N to the old end.
 ghost use mathlib.Core.Path.{_≡_};
-ghost use mathlib.Core.List.{_∷_, _++_, map};
+ghost use mathlib.Core.List.{_∷_, map};
 ghost use Prim.Native.Nat.{_+_, _≤_, _<_};
 ghost use lib.ListN.{length, getD, take, drop, set, replicate};
 ghost use lib.Seq.{sets};
@@ -59,7 +59,8 @@ fn adjust_slot<'a>(
     expression_map: &'a [u32],
 ) -> u32
     ensures { λ r. ⌜ r ≡
-        adjustedBy (mapsIn «type_map» «constant_map» «override_map» «global_map» «expression_map») start (slotOf slot) w ⌝ }
+        adjustedBy (mapsIn «type_map» «constant_map» «override_map» «global_map» «expression_map»)
+        start (slotOf slot) w ⌝ }
 {
     match slot {
         Slot::Must(arena) => handles::word_after(
@@ -152,7 +153,8 @@ fn adjust_typed(
     requires { ⌜ (to ≤ from) × (from + 1 < length (now ws)) ⌝ }
     ensures { λ _. ⌜ now (ws .exit) ≡
         sets (now (ws .entry)) to
-        (typedBy must (now («type_map» .entry)) (now («expression_map» .entry)) (wordsFrom (now (ws .entry)) from) 0) ⌝ }
+        (typedBy must (now («type_map» .entry)) (now («expression_map» .entry))
+        (wordsFrom (now (ws .entry)) from) 0) ⌝ }
 {
     let ty = TypeHandle(ws[from + Global::TYPE]);
     let init = ExpressionHandle(ws[from + Global::INIT]);
@@ -173,7 +175,8 @@ fn adjust_named(
     ensures { λ _. ⌜ now (ws .exit) ≡
         sets (now (ws .entry)) to
         (wordsFrom (now (ws .entry)) from 0
-        ∷ typedBy must (now («type_map» .entry)) (now («expression_map» .entry)) (wordsFrom (now (ws .entry)) from) 1) ⌝ }
+        ∷ typedBy must (now («type_map» .entry)) (now («expression_map» .entry))
+        (wordsFrom (now (ws .entry)) from) 1) ⌝ }
 {
     let flag = ws[from + Constant::NAMED];
     ws[to + Constant::NAMED] = flag;
@@ -187,7 +190,7 @@ fn adjust_named(
     );
 }
 
-// The n words that stand before the tail of the area's record at `from` are written, adjusted, at `to`, which is no later.
+// The n words before the tail of the area's record at `from` are written, adjusted, at `to`, which is no later.
 // Three areas have one shape each.
 fn adjust_body<'a>(
     area: u32,
@@ -337,7 +340,8 @@ fn kept_at(own: &[u32], h: usize) -> bool
     false
 }
 
-// An arena rewritten: its kept records adjusted and closed up in old order, then N. As the Rust's `retain_mut` with `adjust_type`, `adjust_expression`.
+// An arena rewritten: its kept records adjusted and closed up in old order, then N.
+// As the Rust's `retain_mut` with `adjust_type`, `adjust_expression`.
 pub fn adjust_arena<'a>(
     area: u32,
     ws: &mut [u32],
@@ -347,7 +351,10 @@ pub fn adjust_arena<'a>(
     global_map: &'a [u32],
     expression_map: &'a [u32],
 )
-    ensures { λ _. ⌜ now (ws .exit) ≡ arenaBy (mapsOf (now («type_map» .entry)) (now («constant_map» .entry)) (now («override_map» .entry)) (now («global_map» .entry)) (now («expression_map» .entry))) (numbered area) (now (ws .entry)) ⌝ }
+    ensures { λ _. ⌜ now (ws .exit) ≡
+        arenaBy (mapsOf (now («type_map» .entry)) (now («constant_map» .entry)) (now («override_map» .entry))
+        (now («global_map» .entry)) (now («expression_map» .entry)))
+        (numbered area) (now (ws .entry)) ⌝ }
 {
     let width = slots::arena_width(area);
     let own = map_of(
@@ -411,9 +418,12 @@ fn adjust_run(area: u32, pool: &mut [u32], from: usize, to: usize, n: usize, own
     }
 }
 
-// A pool rewritten: the runs of its arena's kept records adjusted and closed up, then N. Answers how many words were kept. The arena's records still stand as they were.
+// A pool rewritten: the runs of its arena's kept records adjusted and closed up, then N.
+// Answers how many words were kept. The arena's records still stand as they were.
 pub fn adjust_pool(area: u32, ws: &[u32], pool: &mut [u32], own: &[u32]) -> usize
-    ensures { λ r. ⌜ (now (pool .exit) ≡ poolBy (now (own .entry)) (numbered area) (now (ws .entry)) (now (pool .entry))) × (r ≡ length (runsBy (now (own .entry)) (numbered area) (now (ws .entry)) (now (pool .entry)))) ⌝ }
+    ensures { λ r. ⌜
+        (now (pool .exit) ≡ poolBy (now (own .entry)) (numbered area) (now (ws .entry)) (now (pool .entry)))
+        × (r ≡ length (runsBy (now (own .entry)) (numbered area) (now (ws .entry)) (now (pool .entry)))) ⌝ }
 {
     let width = slots::arena_width(area);
     let n = ws.len() / width;
@@ -447,7 +457,10 @@ pub fn adjust_mentions<'a>(
     global_map: &'a [u32],
     expression_map: &'a [u32],
 )
-    ensures { λ _. ⌜ now (mentions .exit) ≡ mentionsBy (mapsOf (now («type_map» .entry)) (now («constant_map» .entry)) (now («override_map» .entry)) (now («global_map» .entry)) (now («expression_map» .entry))) (now (mentions .entry)) ⌝ }
+    ensures { λ _. ⌜ now (mentions .exit) ≡
+        mentionsBy (mapsOf (now («type_map» .entry)) (now («constant_map» .entry)) (now («override_map» .entry))
+        (now («global_map» .entry)) (now («expression_map» .entry)))
+        (now (mentions .entry)) ⌝ }
 {
     let mut at = 0;
     while Mention::WIDTH <= mentions.len() - at {

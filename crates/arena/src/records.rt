@@ -1,4 +1,4 @@
-// The areas' records. Each kind carries its width, its limit, the places of its words, its empty record and its readers.
+// The areas' records. Each kind carries its width, its limit, its words' places, its empty record and its readers.
 ghost use mathlib.Core.Path.{_≡_};
 ghost use Prim.Native.Nat.{_+_, _*_, _/_, _<_, min};
 ghost use lib.ListN.{length, getD, replicate};

@@ -8,16 +8,16 @@ use native.Mathlib.Nat.{le-refl, le-trans, mod-lt, div-add-mod', div-lt-iff-lt-m
 use native.Mathlib.Numerals.{add-one}
 use native.Mathlib.Omega.{arith}
 use lib.Dec.{T, eqb, leb, eqb→eq, lit<}
-use lib.ListN.{length, getD, take, drop}
+use lib.ListN.{length, getD, take}
 use lib.Seq.{ext-getD, take-add, take-length}
 use borrow.Author.Tests.{eqb-true}
 use Rattle.definitions.specs.Lists.{all, always, gather, total}
 use Rattle.definitions.specs.Areas.{Areas, Arena, Elem, N, Words, allWords, at, constants, expressions, globals, lengthOf, mentionCount, mentionWord, numbered, overrides, pool, size, types, width, widths, word, words}
 use Rattle.definitions.specs.Slots.{Slot, below, count, free, layout, may, must, start, unused}
-use Rattle.definitions.specs.References.{hasRun, run, span}
+use Rattle.definitions.specs.References.{run, span}
 use Rattle.definitions.specs.Roots.{mention}
 use Rattle.definitions.specs.Sweep.{has, kept}
-use Rattle.definitions.specs.Refusals.{every, held, heldAt, check, inside as test, passes, runsBefore, shaped, shapedAt}
+use Rattle.definitions.specs.Refusals.{every, held, heldAt, check, inside as test, passes, runsBefore, shaped}
 use Rattle.definitions.specs.Numbering.{isKept, newHandle, rank}
 use Rattle.definitions.specs.Outcome.{Maps, lengths, outcome, outcomeOf}
 use Rattle.definitions.specs.Records.{adjusted, areasAfter, keptAreas, padded, mentionAfter, runsUpTo, startAfter}
@@ -26,7 +26,7 @@ use Rattle.definitions.proofs.Least.{_∈_, and-left, and-right, Within
 use Rattle.definitions.proofs.Accepted.{Sound}
 use Rattle.definitions.proofs.Kept.{Inside, inside-lt, lt-inside, inside-closed, OrderedOn, kept-inside}
 use Rattle.definitions.proofs.Places.{new-kept}
-use Rattle.definitions.proofs.Reading.{after, width-pos, word-after, length-after, length-layout, shaped-slot, every-at, run-eq, no-span, start-slot, run-wide}
+use Rattle.definitions.proofs.Reading.{after, width-pos, word-after, length-after, length-layout, shaped-slot, every-at, run-there}
 use Rattle.definitions.proofs.AcceptedAfter.{mentionWord-after, mentions-length}
 use Rattle.definitions.proofs.Unchanged.{outcome-accepted}
 use Rattle.definitions.proofs.SecondPass.{accepted-again, drops-nothing}
@@ -45,14 +45,6 @@ mention-at : (s : Areas) (m : List Elem) (h k : ℕ) → mentionWord (after s m)
     → getD (after s m .mentions) (h * 2 + k) 0 ≡ getD (s .mentions) (h * 2 + k) 0
 unfolding mentionWord
 mention-at s m h k e = e
-
-start-is : (s : Areas) (a : Arena) (h : ℕ) → T (shapedAt s a h) → getD (layout s a h) 2 unused ≡ start → 2 < length (layout s a h)
-    → word s a h 2 ≡ runsBefore s a h
-unfolding shaped
-start-is s a h t e l =
-    eqb→eq (word s a h 2) (runsBefore s a h)
-    (and-left (eqb (word s a h 2) (runsBefore s a h)) (leb (word s a h 2 + span s a h) (length (pool s a)))
-    (subst (λ x. T (shaped s a h x (word s a h 2))) e (shaped-slot s a h t 2 l)))
 
 module _ (s : Areas) (m : List Elem) (c : Sound s) (ins : Within m (Inside s)) (full : (x : Elem) → Inside s x → x ∈ m) where
   clo : Closed s (λ x. x ∈ m)
@@ -146,21 +138,11 @@ module _ (s : Areas) (m : List Elem) (c : Sound s) (ins : Within m (Inside s)) (
   unfolding heldAt
   run-place a h l = map-place a (run s a h) (and-right (every (held s) (word s a h) 0 (layout s a h)) (all (λ w. test s (at a w)) (run s a h)) (c .holds a h l))
 
-  run-there : (a : Arena) (h : ℕ) → h < size s a → run s a h ≡ take (span s a h) (drop (runsBefore s a h) (pool s a))
-  run-there a h l = run-eq s a h ∙ go (hasRun s a h) refl
-    where
-      go : (b : Bool) → hasRun s a h ≡ b → take (span s a h) (drop (word s a h 2) (pool s a)) ≡ take (span s a h) (drop (runsBefore s a h) (pool s a))
-      go true e =
-          let t : T (hasRun s a h) = subst T (sym e) tt in
-          ap (λ n. take (span s a h) (drop n (pool s a)))
-          (start-is s a h (c .shapes a h l) (start-slot s m a h t) (subst (λ n. 2 < n) (sym (length-layout s m a h)) (le-trans (lit< tt) (run-wide s m a h t))))
-      go false e = rw (no-span s a h e)
-
   runs-all : (a : Arena) (h : ℕ) → h ≤ size s a → gather (isKept m a) (λ j. map (newHandle (isKept m a)) (run s a j)) h ≡ take (runsBefore s a h) (pool s a)
   unfolding gather runsBefore total
   runs-all a zero l = refl
   runs-all a (suc h) l =
-      ap₂ (λ p q. p ++ q) (runs-all a h (le-trans (omega arith) l)) (passed (has m (at a h)) (keeps a h l) ∙ run-place a h l ∙ run-there a h l)
+      ap₂ (λ p q. p ++ q) (runs-all a h (le-trans (omega arith) l)) (passed (has m (at a h)) (keeps a h l) ∙ run-place a h l ∙ run-there s m c a h l)
       ∙ sym (take-add (runsBefore s a h) (span s a h) (pool s a))
     where
       passed : (b : Bool) → T b → cond b (map (newHandle (isKept m a)) (run s a h)) [] ≡ map (newHandle (isKept m a)) (run s a h)

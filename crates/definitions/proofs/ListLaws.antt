@@ -2,9 +2,9 @@
 -- Assumes nothing.
 use mathlib.Core.Path.{_≡_, refl, sym, ap, ap₂, subst, _∙_}
 use mathlib.Core.Bool.{Bool, true, false, cond}
-use mathlib.Core.Logic.{_⊎_, ⊎-elim}
+use mathlib.Core.Logic.{⊎-elim}
 use mathlib.Core.List.{List, [], _++_, append-assoc, append-nil}
-use Prim.Native.Nat.{ℕ, zero, suc, _+_, _*_, _-_, _≤_, _<_}
+use Prim.Native.Nat.{ℕ, zero, suc, _+_, _*_, _≤_, _<_}
 use native.Mathlib.Nat.{le-refl, le-trans, not-suc-le-zero, le-of-suc-le-suc, eq-or-lt-of-le}
 use native.Mathlib.Numerals.{add-one}
 use native.Mathlib.Omega.{arith}
@@ -21,6 +21,10 @@ module _ (p : ℕ → Bool) (g : ℕ → ℕ) where
       go : (b : Bool) → T b → cond b (total p g h + g h) (total p g h) ≡ total p g h + g h
       go true u = refl
       go false u = absurd u
+
+  pub total-skip : (h : ℕ) → p h ≡ false → total p g (suc h) ≡ total p g h
+  unfolding total
+  total-skip h e = rw e
 
   pub total-up : (h : ℕ) → total p g h ≤ total p g (suc h)
   unfolding total
@@ -70,6 +74,14 @@ total-scale p w (suc n) = go (p n) (total-scale p w n)
         → cond b (total p (λ _. w) n + w) (total p (λ _. w) n) ≡ cond b (total p (λ _. 1) n + 1) (total p (λ _. 1) n) * w
     go true e = omega arith
     go false e = e
+
+pub gather-step : (p : ℕ → Bool) (f : ℕ → List ℕ) (h : ℕ) → p h ≡ true → gather p f (suc h) ≡ gather p f h ++ f h
+unfolding gather
+gather-step p f h e = rw e
+
+pub gather-skip : (p : ℕ → Bool) (f : ℕ → List ℕ) (h : ℕ) → p h ≡ false → gather p f (suc h) ≡ gather p f h
+unfolding gather
+gather-skip p f h e = rw e (append-nil (gather p f h))
 
 pub length-gather : (p : ℕ → Bool) (f : ℕ → List ℕ) (n : ℕ) → length (gather p f n) ≡ total p (λ h. length (f h)) n
 unfolding gather total

@@ -3,12 +3,12 @@
 use mathlib.Core.Path.{_≡_, refl, sym, ap, ap₂, subst, _∙_}
 use mathlib.Core.Bool.{Bool, true, false, cond}
 use mathlib.Core.List.{List, [], _∷_, _++_, map}
-use Prim.Native.Nat.{ℕ, zero, suc, _+_, _*_, _/_, _-_, _≤_, _<_, suc-le-suc}
+use Prim.Native.Nat.{ℕ, zero, suc, _+_, _*_, _/_, _≤_, _<_, suc-le-suc}
 use native.Mathlib.Nat.{le-trans, not-suc-le-zero, le-of-suc-le-suc, mul-div-cancel, zero-lt-suc, add-suc, suc-add, zero-add, add-zero}
 use native.Mathlib.Omega.{arith}
 use lib.Dec.{T, eqb, leb, eqb→eq, leb→le, lit<}
 use lib.ListN.{length, getD, take, drop, length-append, length-take, length-drop, length-map}
-use borrow.Author.Tests.{eq-eqb, ne-eqb, eqb-true, eqb-false}
+use borrow.Author.Tests.{ne-eqb, eqb-true, eqb-false}
 use Rattle.definitions.specs.Lists.{gather, total}
 use Rattle.definitions.specs.Areas.{Areas, Arena, Elem, N, Words, at, constants, expressions, globals, overrides, pool, size, types, width, word, words}
 use Rattle.definitions.specs.Slots.{body, typeBody, exprBody, Slot, below, count, exprSlots, fill, formOf, free, layout, may, must, slots, start, typeSlots, unused}
@@ -20,7 +20,7 @@ use Rattle.definitions.proofs.ListLaws.{total-cong, total-scale, length
 use Rattle.definitions.proofs.Least.{_∈_, and-left, and-right, Within, Closed, here, append-left, append-right}
 use Rattle.definitions.proofs.Accepted.{Sound, size-few}
 use Rattle.definitions.proofs.Kept.{SlotHolds, EachSlot, Inside, inside-lt, lt-inside}
-use Rattle.definitions.proofs.Places.{new-kept, new-dropped, rank-le, rank-below}
+use Rattle.definitions.proofs.Places.{new-kept, rank-le, rank-below}
 
 pub map-append : {A B : Type 0} (f : A → B) (l r : List A) → map f (l ++ r) ≡ map f l ++ map f r
 map-append f [] r = refl
@@ -83,6 +83,14 @@ unfolding shaped
 start-fits s a h t e l =
     leb→le (word s a h 2 + span s a h) (length (pool s a))
     (and-right (eqb (word s a h 2) (runsBefore s a h)) (leb (word s a h 2 + span s a h) (length (pool s a)))
+    (subst (λ x. T (shaped s a h x (word s a h 2))) e (shaped-slot s a h t 2 l)))
+
+start-is : (s : Areas) (a : Arena) (h : ℕ) → T (shapedAt s a h) → getD (layout s a h) 2 unused ≡ start → 2 < length (layout s a h)
+    → word s a h 2 ≡ runsBefore s a h
+unfolding shaped
+start-is s a h t e l =
+    eqb→eq (word s a h 2) (runsBefore s a h)
+    (and-left (eqb (word s a h 2) (runsBefore s a h)) (leb (word s a h 2 + span s a h) (length (pool s a)))
     (subst (λ x. T (shaped s a h x (word s a h 2))) e (shaped-slot s a h t 2 l)))
 
 length-fill : (n : ℕ) (l : List Slot) → length (fill n l) ≡ n
@@ -295,6 +303,17 @@ module _ (s : Areas) (m : List Elem) where
             let t : T (hasRun s a h) = subst T (sym e) tt in
             let q : word s a h 2 + span s a h ≤ length (pool s a) = start-fits s a h (c .shapes a h l) (start-slot a h t) (subst (λ n. 2 < n) (sym (length-layout a h)) (le-trans (lit< tt) (run-wide a h t))) in
             simp (length-take, length-drop) (omega arith)
+        go false e = rw (no-span s a h e)
+
+    -- and begins where those before it end
+    pub run-there : (a : Arena) (h : ℕ) → h < size s a → run s a h ≡ take (span s a h) (drop (runsBefore s a h) (pool s a))
+    run-there a h l = run-eq s a h ∙ go (hasRun s a h) refl
+      where
+        go : (b : Bool) → hasRun s a h ≡ b → take (span s a h) (drop (word s a h 2) (pool s a)) ≡ take (span s a h) (drop (runsBefore s a h) (pool s a))
+        go true e =
+            let t : T (hasRun s a h) = subst T (sym e) tt in
+            ap (λ n. take (span s a h) (drop n (pool s a)))
+            (start-is s a h (c .shapes a h l) (start-slot a h t) (subst (λ n. 2 < n) (sym (length-layout a h)) (le-trans (lit< tt) (run-wide a h t))))
         go false e = rw (no-span s a h e)
 
     pub pool-after : (a : Arena) (h : ℕ) → T (hasRun s a h) → pool after a ≡ runsUpTo s m a (size s a)

@@ -1,4 +1,5 @@
-// The handle map: made from a set, and the map entries of document 01 over any map, on a plain slice and through a reader that holds the map it was lent.
+// The handle map: made from a set, and the map entries of document 01 over any map, on a plain slice and through a
+// reader that holds the map it was lent.
 ghost use mathlib.Core.Path.{_≡_};
 ghost use mathlib.Core.Bool.{cond};
 ghost use Prim.Native.Nat.{min};
@@ -25,7 +26,8 @@ pub enum Ranged {
     Refused,
 }
 
-// The map's word of a record: N where it is dropped, else the next handle. It compiles to a choice of two values, with no branch.
+// The map's word of a record: N where it is dropped, else the next handle.
+// It compiles to a choice of two values, with no branch.
 fn chosen(one: u32, next: u32) -> u32
     ensures { λ r. ⌜ r ≡ cond (eqb one 0) N next ⌝ }
 {
@@ -35,10 +37,14 @@ fn chosen(one: u32, next: u32) -> u32
     next
 }
 
-// As the Rust's `HandleMap::from_set`: the map of an arena's n records from their marks, whose bits begin at the base: the new handle, or N, at each old record.
+// As the Rust's `HandleMap::from_set`: the map of an arena's n records from their marks, whose bits begin at the base:
+// the new handle, or N, at each old record.
 // Words past the records stay; a map shorter than the records is filled. Answers how many are kept.
 pub fn from_set(marks: &[u64], base: u32, n: u32, map: &mut [u32]) -> u32
-    ensures { λ r. ⌜ (r ≡ rank (inSet (now (marks .entry)) base) (min n (length (now (map .entry))))) × (now (map .exit) ≡ mapped (inSet (now (marks .entry)) base) (min n (length (now (map .entry)))) (now (map .entry))) ⌝ }
+    ensures { λ r. ⌜
+        (r ≡ rank (inSet (now (marks .entry)) base) (min n (length (now (map .entry)))))
+        × (now (map .exit) ≡
+        mapped (inSet (now (marks .entry)) base) (min n (length (now (map .entry)))) (now (map .entry))) ⌝ }
 {
     let mut next: u32 = 0;
     let mut h: u32 = 0;

@@ -6,7 +6,7 @@ use Prim.Native.Nat.{ℕ}
 use borrow.Author.Tests.{eq-eqb, ne-eqb}
 use denote.Enum.Declared.{tagOf}
 use types.Run.{OneOf, miss}
-use Rattle.definitions.specs.Areas.{Words, N}
+use Rattle.definitions.specs.Areas.{N}
 use Rattle.definitions.specs.Outcome.{Maps, mapOf}
 use Rattle.definitions.specs.MapEntries.{lookup}
 use Rattle.slots.specs.Codes.{arenaOf, slotOf}
