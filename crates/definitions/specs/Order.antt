@@ -46,8 +46,7 @@ falling p zero = []
 falling p (suc n) = at expressions (p + n) ∷ falling p n
 
 -- "all types are visited youngest first; before type T every unvisited expression above dep(T) is visited, youngest
--- first; the rest follow at the end": the visits where t types and e expressions are left.
--- In the Rust: the loops of `type_expression_tandem`
+-- first; the rest follow at the end": the visits where t types and e expressions are left
 unfoldable pub visits : Areas → ℕ → ℕ → List Elem
 visits s zero e = falling 0 e
 visits s (suc t) e = falling (pastDep s t) (e - pastDep s t) ++ (at types t ∷ visits s t (min e (pastDep s t)))

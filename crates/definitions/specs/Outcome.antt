@@ -59,8 +59,7 @@ mapsAfter s m p =
       expressions = mapAfter s m expressions (p .expressions);
     }
 
--- the outcome by the verdict: "Accepted: number, area and record are 0."; refused: "It reports number, area, record.
--- [..] The seven kept counts are 0. No area or map changes."
+-- the outcome by the verdict; refused: "The seven kept counts are 0. No area or map changes."
 unfoldable pub outcomeOf : Areas → Maps → List Elem → Verdict → Outcome
 outcomeOf s p m accepted =
     record {

@@ -3,7 +3,7 @@
 use mathlib.Core.Bool.{cond}
 use mathlib.Core.List.{List, [], _∷_, _++_}
 use Prim.Native.Nat.{ℕ, zero, suc}
-use lib.ListN.{getD}
+use lib.ListN.{getD, replicate}
 use lib.Dec.{eqb}
 use Rattle.definitions.specs.Areas.{Arena, types, constants, overrides, globals, expressions, Areas, word}
 
@@ -31,15 +31,9 @@ typeSlots =
     ∷ (start ∷ count ∷ [])  -- 3 a run of the member pool, start a, count b
     ∷ []
 
--- one, two, three expressions
-abbrev one : List Slot
-one = must expressions ∷ []
-
-abbrev two : List Slot
-two = must expressions ∷ one
-
-abbrev three : List Slot
-three = must expressions ∷ two
+-- n expressions that must be there
+abbrev operands : ℕ → List Slot
+operands n = replicate n (must expressions)
 
 -- nine words of which none is read: "Check 4 passes over them and doesn't read their slots."
 abbrev unread : List Slot
@@ -58,7 +52,7 @@ levelSlots =
 -- image, sampler, coordinate, array index?, offset?, level form, x and y by the form, depth reference?
 abbrev sampleSlots : ℕ → List Slot
 sampleSlots form =
-    three ++ (may expressions ∷ may expressions ∷ below 5 ∷ []) ++ getD levelSlots form (unused ∷ unused ∷ [])
+    operands 3 ++ (may expressions ∷ may expressions ∷ below 5 ∷ []) ++ getD levelSlots form (unused ∷ unused ∷ [])
     ++ (may expressions ∷ [])
 
 -- the level of an `ImageQuery`, by its form
@@ -79,27 +73,27 @@ exprSlots form =
     ∷ (must overrides ∷ [])  -- 6 `Override`
     ∷ (must types ∷ [])  -- 7 `ZeroValue`
     ∷ (must types ∷ start ∷ count ∷ [])  -- 8 `Compose`: type, pool start, pool count
-    ∷ two  -- 9 `Access`
-    ∷ one ∷ one ∷ one  -- 10 `AccessIndex` 11 `Splat` 12 `Swizzle`
+    ∷ operands 2  -- 9 `Access`
+    ∷ operands 1 ∷ operands 1 ∷ operands 1  -- 10 `AccessIndex` 11 `Splat` 12 `Swizzle`
     ∷ unread  -- 13 `GlobalVariable`: not at module scope
-    ∷ one  -- 14 `Load`
+    ∷ operands 1  -- 14 `Load`
     ∷ sampleSlots form  -- 15 `ImageSample`
     -- 16 `ImageLoad`: image, coordinate, array index?, sample?, level?
-    ∷ (two ++ (may expressions ∷ may expressions ∷ may expressions ∷ []))
-    ∷ (one ++ (below 4 ∷ []) ++ querySlots form)  -- 17 `ImageQuery`: image, form, level? by the form
-    ∷ one ∷ one  -- 18 `RayQueryVertexPositions` 19 `Unary`
-    ∷ two  -- 20 `Binary`
-    ∷ three  -- 21 `Select`
-    ∷ one ∷ one  -- 22 `Derivative` 23 `Relational`
+    ∷ (operands 2 ++ (may expressions ∷ may expressions ∷ may expressions ∷ []))
+    ∷ (operands 1 ++ (below 4 ∷ []) ++ querySlots form)  -- 17 `ImageQuery`: image, form, level? by the form
+    ∷ operands 1 ∷ operands 1  -- 18 `RayQueryVertexPositions` 19 `Unary`
+    ∷ operands 2  -- 20 `Binary`
+    ∷ operands 3  -- 21 `Select`
+    ∷ operands 1 ∷ operands 1  -- 22 `Derivative` 23 `Relational`
     -- 24 `Math`: one expression, then three that may be N
-    ∷ (one ++ (may expressions ∷ may expressions ∷ may expressions ∷ []))
-    ∷ one ∷ one  -- 25 `As` 26 `ArrayLength`
+    ∷ (operands 1 ++ (may expressions ∷ may expressions ∷ may expressions ∷ []))
+    ∷ operands 1 ∷ operands 1  -- 25 `As` 26 `ArrayLength`
     ∷ unread  -- 27 `CallResult`: not at module scope
     -- 28 `AtomicResult` 29 `WorkGroupUniformLoadResult` 30 `SubgroupOperationResult`
     ∷ (must types ∷ []) ∷ (must types ∷ []) ∷ (must types ∷ [])
-    ∷ one  -- 31 `RayQueryGetIntersection`
-    ∷ two  -- 32 `CooperativeLoad`
-    ∷ three  -- 33 `CooperativeMultiplyAdd`
+    ∷ operands 1  -- 31 `RayQueryGetIntersection`
+    ∷ operands 2  -- 32 `CooperativeLoad`
+    ∷ operands 3  -- 33 `CooperativeMultiplyAdd`
     ∷ []
 
 -- an expression's kind and nine slots, by its kind and form

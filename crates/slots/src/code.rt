@@ -1,12 +1,13 @@
 // What a shape holds: for each word of a record's body a code of four bits, the first word's lowest. 0 is that of an unused word.
 use arena::Expression;
+use arena::TAIL;
 
 pub const BITS: usize = 4;
 
 pub const BASE: u64 = 1 << BITS;
 
 // The words of the longest body: all of an expression's before its tag.
-pub const WORDS: usize = Expression::TAG;
+pub const WORDS: usize = Expression::WIDTH - TAIL;
 
 // Any word.
 pub const FREE: u64 = 1;
