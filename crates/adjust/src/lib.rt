@@ -25,6 +25,7 @@ use arena::Type;
 use arena::TypeHandle;
 use slots::Arena;
 use slots::Slot;
+use slots::code;
 
 // The map of an arena.
 fn map_of<'a>(
@@ -124,7 +125,7 @@ fn adjust_record<'a>(
             global_map,
             expression_map,
         );
-        rest = rest / 16;
+        rest = rest / code::BASE;
         k += 1;
     }
 }

@@ -23,6 +23,7 @@ use arena::N;
 use arena::Override;
 use arena::OverrideHandle;
 use arena::Sizes;
+use arena::TAIL;
 use arena::Type;
 use arena::TypeHandle;
 use slots::Arena;
@@ -244,7 +245,7 @@ pub fn record_keeps(
         ws,
         at,
         slots::shape(area, ws, at),
-        width - 1,
+        width - TAIL,
         constants,
         overrides,
         globals,
@@ -389,7 +390,7 @@ pub fn record_good(
             ws,
             at,
             slots::shape(area, ws, at),
-            slots::arena_width(area) - 1,
+            slots::arena_width(area) - TAIL,
             constants,
             overrides,
         ),
