@@ -4,7 +4,8 @@ use mathlib.Core.Bool.{Bool, true, false, _&&_, _||_, cond}
 use Prim.Native.Nat.{ℕ, zero, suc, _+_}
 use lib.Dec.{eqb, ltb, leb}
 use Rattle.definitions.specs.Lists.{all}
-use Rattle.definitions.specs.Areas.{Words, N, Arena, Areas, Elem, at, types, constants, overrides, globals, expressions, wordOf}
+use Rattle.definitions.specs.Areas.{Words, N, Areas, Elem, at, wordOf}
+use Rattle.definitions.specs.Areas.{Arena, types, constants, overrides, globals, expressions}
 use Rattle.definitions.specs.Slots.{Slot, unused, free, below, must, may, start, count}
 use Rattle.definitions.specs.References.{namedBy}
 use Rattle.definitions.specs.Order.{sizedBy, withBehind}
@@ -58,21 +59,19 @@ asked c o g (Shaped r) l w = shapedBy r l w
 asked c o g (Held z) l w = heldBy (sizeIn z) l w
 asked c o g (Ordered b) l w = all (within b) (withBehind (part c o g) (namedBy l w))
 
--- numbers 4 to 7 at once: does an element, with all that stands behind it, lie within the limits ? No slot names a global
-unfoldable pub fitBy : Words → Words → Limits → Arena → ℕ → Bool
-fitBy c o l types h = ltb h (l .types)
-fitBy c o l constants h = ltb h (l .constants) && (ltb (wordOf c constants h 1) (l .types) && ltb (wordOf c constants h 2) (l .expressions))
-fitBy c o l overrides h =
-    ltb h (l .overrides)
-    && (ltb (wordOf o overrides h 1) (l .types) && (eqb (wordOf o overrides h 2) N || ltb (wordOf o overrides h 2) (l .expressions)))
-fitBy c o l globals h = false
-fitBy c o l expressions h = ltb h (l .expressions)
-
--- a type and an init within the limits; unless it has to be there the init may be N
+-- numbers 4 to 7 at once: a type and an init within the limits; unless it has to be there the init may be N
 abbrev pub typedBy : Limits → Bool → ℕ → ℕ → Bool
 typedBy l present t e = ltb t (l .types) && (cond present false (eqb e N) || ltb e (l .expressions))
 
--- a word that passes is good under each of the numbers; the only kinds with free slots before the tag are those of number 5
+-- does an element, with all that stands behind it, lie within the limits ? No slot names a global
+unfoldable pub fitBy : Words → Words → Limits → Arena → ℕ → Bool
+fitBy c o l types h = ltb h (l .types)
+fitBy c o l constants h = ltb h (l .constants) && typedBy l true (wordOf c constants h 1) (wordOf c constants h 2)
+fitBy c o l overrides h = ltb h (l .overrides) && typedBy l false (wordOf o overrides h 1) (wordOf o overrides h 2)
+fitBy c o l globals h = false
+fitBy c o l expressions h = ltb h (l .expressions)
+
+-- is a word good under each of the numbers ? Only the kinds of number 5 have free slots before the tag
 unfoldable pub goodBy : Words → Words → Limits → Slot → ℕ → Bool
 goodBy c o l unused w = eqb w N
 goodBy c o l free w = false

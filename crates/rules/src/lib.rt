@@ -45,7 +45,8 @@ pub struct Bounds {
     pub every_expression: bool,
 }
 
-// What is enough for numbers 4 to 7 at once: below which type and expression lies all that a word names and that stands behind it, how many constants and overrides there are, and the record's run.
+// What is enough for numbers 4 to 7 at once: below which type and expression all lies that a word names or that stands
+// behind it, how many constants and overrides there are, and the record's run.
 pub struct Limits {
     pub types: u32,
     pub constants: u32,

@@ -1,4 +1,4 @@
-// What a shape holds: for each word of a record's body a code of four bits, the first word's lowest. 0 is that of an unused word.
+// What a shape holds: a code of four bits for each word of a body, the first word's lowest; 0 for an unused word.
 use arena::Expression;
 use arena::TAIL;
 
