@@ -2,10 +2,21 @@
 ghost use mathlib.Core.Path.{_≡_};
 ghost use Rattle.arena.specs.Elements.{elementOf, handleOf};
 
+mod areas;
 pub mod handle_set;
 mod records;
 mod sizes;
 
+pub use areas::AREAS;
+pub use areas::ARENAS;
+pub use areas::COMPONENTS;
+pub use areas::CONSTANTS;
+pub use areas::EXPRESSIONS;
+pub use areas::GLOBALS;
+pub use areas::MEMBERS;
+pub use areas::MENTIONS;
+pub use areas::OVERRIDES;
+pub use areas::TYPES;
 pub use records::Constant;
 pub use records::Expression;
 pub use records::Global;

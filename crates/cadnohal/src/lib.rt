@@ -1,4 +1,5 @@
-// The C boundary: each function answers what the Rattle function of its name answers, as a plain C value. Any words may be handed in.
+// The C boundary: each function answers what the Rattle function of its name answers, as a plain C value.
+// Any words may be handed in.
 ghost use mathlib.Core.Path.{_≡_};
 ghost use mathlib.Core.List.{[], _∷_};
 ghost use lib.ListN.{length};

@@ -36,9 +36,16 @@ isAccepted (Refused f) = false
 abbrev pub outcomeWith : Compacted → Areas → Maps → Outcome
 outcomeWith (Kept n) s p = record { number = 0; area = 0; recordNumber = 0; counts = countsOf n; areas = s; maps = p }
 outcomeWith (Refused f) s p =
-    record { number = f .number; area = f .area; recordNumber = f .record; counts = 0 ∷ 0 ∷ 0 ∷ 0 ∷ 0 ∷ 0 ∷ 0 ∷ []; areas = s; maps = p }
+    record {
+      number = f .number;
+      area = f .area;
+      recordNumber = f .record;
+      counts = 0 ∷ 0 ∷ 0 ∷ 0 ∷ 0 ∷ 0 ∷ 0 ∷ [];
+      areas = s;
+      maps = p;
+    }
 
--- all that is promised: the answer tells whether the check passes, and with every lent word it is the outcome of document 01
+-- all that is promised: the answer tells whether the check passes, and with every lent word it is document 01's outcome
 pub record Compacts (s : Areas) (p : Maps) (keep : Bool) (r : Compacted) (s′ : Areas) (p′ : Maps) : Type 0 where
   pub verdict : isAccepted r ≡ passes (check s (lengths p))
   pub outcome-is : outcomeWith r s′ p′ ≡ outcome s p keep

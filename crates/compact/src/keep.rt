@@ -22,7 +22,8 @@ pub fn all_kept(
     globals: u32,
     expressions: u32,
 ) -> bool
-    ensures { λ r. ⌜ r ≡ (eqb types (z .types) && (eqb constants (z .constants) && (eqb overrides (z .overrides) && (eqb globals (z .globals) && eqb expressions (z .expressions))))) ⌝ }
+    ensures { λ r. ⌜ r ≡ (eqb types (z .types) && (eqb constants (z .constants) && (eqb overrides (z .overrides)
+        && (eqb globals (z .globals) && eqb expressions (z .expressions))))) ⌝ }
 {
     if types != z.types {
         return false;

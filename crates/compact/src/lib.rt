@@ -5,7 +5,12 @@ ghost use mathlib.Core.Path.{_≡_};
 ghost use Rattle.definitions.specs.Areas.{areasOf};
 ghost use Rattle.adjust.specs.Rewrite.{mapsOf};
 ghost use Rattle.compact.specs.Answer.{keepOf, Compacts};
+use arena::CONSTANTS;
+use arena::EXPRESSIONS;
+use arena::GLOBALS;
+use arena::OVERRIDES;
 use arena::Sizes;
+use arena::TYPES;
 use arena::handle_set::Bases;
 pub use faults::Fault;
 use faults::Verdict;
@@ -126,10 +131,10 @@ pub fn compact(
             components: components.len() as u32,
         });
     }
-    let kept_members = adjust::adjust_pool(0, types, members, type_map);
-    let kept_components = adjust::adjust_pool(4, expressions, components, expression_map);
+    let kept_members = adjust::adjust_pool(TYPES, types, members, type_map);
+    let kept_components = adjust::adjust_pool(EXPRESSIONS, expressions, components, expression_map);
     adjust::adjust_arena(
-        0,
+        TYPES,
         types,
         type_map,
         constant_map,
@@ -138,7 +143,7 @@ pub fn compact(
         expression_map,
     );
     adjust::adjust_arena(
-        1,
+        CONSTANTS,
         constants,
         type_map,
         constant_map,
@@ -147,7 +152,7 @@ pub fn compact(
         expression_map,
     );
     adjust::adjust_arena(
-        2,
+        OVERRIDES,
         overrides,
         type_map,
         constant_map,
@@ -156,7 +161,7 @@ pub fn compact(
         expression_map,
     );
     adjust::adjust_arena(
-        3,
+        GLOBALS,
         globals,
         type_map,
         constant_map,
@@ -165,7 +170,7 @@ pub fn compact(
         expression_map,
     );
     adjust::adjust_arena(
-        4,
+        EXPRESSIONS,
         expressions,
         type_map,
         constant_map,

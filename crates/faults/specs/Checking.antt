@@ -7,7 +7,8 @@ use Prim.Native.Nat.{ℕ, zero, suc, _/_, _%_, _≤_, _<_, min}
 use lib.ListN.{length, getD}
 use lib.Dec.{eqb, ltb, leb}
 use Rattle.definitions.specs.Areas as areas
-use Rattle.definitions.specs.Areas.{Areas, types, expressions, numbered, size, pool, recordsOf, width, widths, limits, mentionWord}
+use Rattle.definitions.specs.Areas.{Areas, types, expressions, numbered, size, pool}
+use Rattle.definitions.specs.Areas.{recordsOf, width, widths, limits, mentionWord}
 use Rattle.definitions.specs.Order.{wellOrdered}
 use Rattle.definitions.specs.Roots.{mention}
 use Rattle.definitions.specs.Refusals.{accepted, refused, firstOf, scan, runsBefore, shapedAt, heldAt, inside, ofModule}
@@ -38,7 +39,8 @@ verdictOf (Refused f) = refused (f .number) (f .area) (f .record)
 unfoldable pub areaOk : List ℕ → List ℕ → ℕ → ℕ → Bool
 areaOk lengths maps n a =
     cond (eqb n 1) (eqb (getD lengths a 0 % getD widths a 1) 0)
-    (cond (eqb n 2) (leb (getD lengths a 0 / getD widths a 1) (getD limits a 0)) (leb (getD lengths a 0 / getD widths a 1) (getD maps a 0)))
+    (cond (eqb n 2) (leb (getD lengths a 0 / getD widths a 1) (getD limits a 0))
+    (leb (getD lengths a 0 / getD widths a 1) (getD maps a 0)))
 
 -- how many areas the number looks at: only arenas have maps
 unfoldable pub areasAt : ℕ → ℕ
@@ -59,7 +61,8 @@ ownerOf a = cond (eqb a 5) types expressions
 unfoldable pub ok4 : Areas → ℕ → ℕ → Bool
 ok4 s a i =
     cond (ltb a 5) (shapedAt s (numbered a) i)
-    (cond (ltb a 7) (eqb (runsBefore s (ownerOf a) (size s (ownerOf a))) (length (pool s (ownerOf a)))) (ltb (mentionWord s i 0) 5))
+    (cond (ltb a 7) (eqb (runsBefore s (ownerOf a) (size s (ownerOf a))) (length (pool s (ownerOf a))))
+    (ltb (mentionWord s i 0) 5))
 
 -- under number 6 ?
 unfoldable pub ok6 : Areas → ℕ → ℕ → Bool
@@ -126,7 +129,8 @@ Used s a = runsBefore s a (size s a) ≡ length (pool s a)
 abbrev pub most : ℕ
 most = 4294967296
 
--- under number 4 the counts before record i, as far as a word can equal them; under 7, for an expression, how many types have dep below it
+-- under number 4 the counts before record i, as far as a word can equal them; under 7, for an expression,
+-- how many types have dep below it
 unfoldable pub carriedAt : Areas → ℕ → ℕ → ℕ → Carried
 carriedAt s n a i =
     record {

@@ -5,19 +5,26 @@ ghost use Rattle.definitions.specs.Refusals.{scanAreas};
 ghost use Rattle.faults.specs.Checking.{areaOk, areasAt, verdictOf};
 use crate::Fault;
 use crate::Verdict;
+use arena::AREAS;
+use arena::ARENAS;
 
 // How many areas the number looks at: only arenas have maps.
 fn areas_at(number: u32) -> usize
     ensures { λ r. ⌜ r ≡ areasAt number ⌝ }
 {
     match number {
-        1 | 2 => 8,
-        _ => 5,
+        1 | 2 => AREAS as usize,
+        _ => ARENAS as usize,
     }
 }
 
 // Is the area good under the number ? 1: whole records; 2: no more than its limit; 3: a map with room.
-fn fine(number: u32, area: usize, lengths: &[usize; 8], maps: &[usize; 5]) -> bool
+fn fine(
+    number: u32,
+    area: usize,
+    lengths: &[usize; AREAS as usize],
+    maps: &[usize; ARENAS as usize],
+) -> bool
     requires { ⌜ area < areasAt number ⌝ }
     ensures { λ r. ⌜ r ≡ areaOk (now (lengths .entry)) (now (maps .entry)) number area ⌝ }
 {
@@ -31,8 +38,13 @@ fn fine(number: u32, area: usize, lengths: &[usize; 8], maps: &[usize; 5]) -> bo
 }
 
 // The first area that is at fault under the number.
-pub fn first(number: u32, lengths: &[usize; 8], maps: &[usize; 5]) -> Verdict
-    ensures { λ r. ⌜ verdictOf r ≡ scanAreas number (areaOk (now (lengths .entry)) (now (maps .entry)) number) (areasAt number) ⌝ }
+pub fn first(
+    number: u32,
+    lengths: &[usize; AREAS as usize],
+    maps: &[usize; ARENAS as usize],
+) -> Verdict
+    ensures { λ r. ⌜ verdictOf r ≡ scanAreas number
+        (areaOk (now (lengths .entry)) (now (maps .entry)) number) (areasAt number) ⌝ }
 {
     let n = areas_at(number);
     let mut area = 0;

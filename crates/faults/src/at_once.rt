@@ -1,4 +1,4 @@
-// Numbers 4 to 7 of a good module in one walk: each record is read once. Where the walk fails, the numbers in turn say why.
+// Numbers 4 to 7 of a good module in one walk that reads each record once; where it fails, the numbers in turn say why.
 ghost use mathlib.Core.Path.{_≡_};
 ghost use mathlib.Core.Bool.{true, _&&_, cond};
 ghost use mathlib.Core.List.{[]};
@@ -13,8 +13,11 @@ ghost use Rattle.arena.specs.Sizes.{sizesOf};
 ghost use Rattle.rules.specs.Rules.{goodBy, leading};
 ghost use Rattle.faults.specs.Checking.{Measured, limitsAt, Passed, Used, inTurn, scanArea};
 use crate::places;
+use arena::ARENAS;
+use arena::EXPRESSIONS;
 use arena::Mention;
 use arena::Sizes;
+use arena::TYPES;
 use rules::Limits;
 use rules::Run;
 
@@ -23,14 +26,14 @@ fn limits(area: u32, i: u32, before: u32, z: Sizes, run: Run) -> Limits
     ensures { λ r. ⌜ r ≡ limitsAt area i before z run ⌝ }
 {
     match area {
-        0 => Limits {
+        TYPES => Limits {
             types: i,
             constants: z.constants,
             overrides: z.overrides,
             expressions: z.expressions,
             run,
         },
-        4 => Limits {
+        EXPRESSIONS => Limits {
             types: before,
             constants: z.constants,
             overrides: z.overrides,
@@ -49,9 +52,11 @@ fn limits(area: u32, i: u32, before: u32, z: Sizes, run: Run) -> Limits
 
 // The types with dep below expression i, from those with dep below the one before it; only an expression needs them.
 fn leads(area: u32, i: u32, before: u32, n: u32, types: &[u32], overrides: &[u32]) -> u32
-    ensures { λ r. ⌜ r ≡ cond (eqb area 4) (leading (areasOf (now (types .entry)) [] (now (overrides .entry)) [] [] [] [] []) i before (n - before)) before ⌝ }
+    ensures { λ r. ⌜ r ≡ cond (eqb area 4)
+        (leading (areasOf (now (types .entry)) [] (now (overrides .entry)) [] [] [] [] []) i before (n - before))
+        before ⌝ }
 {
-    if area == 4 {
+    if area == EXPRESSIONS {
         return rules::prefix(types, overrides, before, n, i);
     }
     before
@@ -69,7 +74,9 @@ fn record_passes(
     overrides: &[u32],
 ) -> bool
     requires { ⌜ l .run .span ≡ spanIn (numbered area) (wordsFrom (now ws) at) ⌝ }
-    ensures { λ r. ⌜ r ≡ (every (goodBy (now (constants .entry)) (now (overrides .entry)) l) (wordsFrom (now (ws .entry)) at) 0 (body (numbered area) (wordsFrom (now (ws .entry)) at)) && all (λ w. ltb w i) (runIn (numbered area) (wordsFrom (now (ws .entry)) at) (now (pool .entry)))) ⌝ }
+    ensures { λ r. ⌜ r ≡ (every (goodBy (now (constants .entry)) (now (overrides .entry)) l)
+        (wordsFrom (now (ws .entry)) at) 0 (body (numbered area) (wordsFrom (now (ws .entry)) at))
+        && all (λ w. ltb w i) (runIn (numbered area) (wordsFrom (now (ws .entry)) at) (now (pool .entry)))) ⌝ }
 {
     if !rules::record_good(l, area, ws, at, constants, overrides) {
         return false;
@@ -114,7 +121,7 @@ fn arena_passes<'a>(
         if !record_passes(l, area, i, ws, at, pool, constants, overrides) {
             return false;
         }
-        sum = places::capped(sum, span);
+        sum = places::run_sum(sum, span);
         i += 1;
     }
     sum == pool.len()
@@ -140,7 +147,7 @@ fn mentions_pass<'a>(
     let mut i = 0;
     while i < n {
         let area = Mention::area(mentions, i);
-        if 5 <= area {
+        if ARENAS <= area {
             return false;
         }
         if places::own_size(area, z) <= Mention::handle(mentions, i) {
@@ -167,7 +174,7 @@ pub fn passes<'a>(
 {
     let z = Sizes::of(types, constants, overrides, globals, expressions, mentions);
     let mut area = 0;
-    while area < 5 {
+    while area < ARENAS {
         if !arena_passes(
             area,
             z,

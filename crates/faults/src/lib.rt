@@ -22,7 +22,8 @@ pub enum Verdict {
     Refused(Fault),
 }
 
-// The verdict on eight areas and five maps of any words: numbers 1 to 7 in turn, the first fault wins. A good module is told by one walk over it.
+// The verdict on eight areas and five maps of any words: numbers 1 to 7 in turn, the first fault wins.
+// A good module is told by one walk over it.
 pub fn check<'a>(
     types: &'a [u32],
     constants: &'a [u32],
@@ -40,7 +41,8 @@ pub fn check<'a>(
 ) -> Verdict
     ensures { λ r. ⌜ reportOf r ≡ reported (check
         (areasOf (now (types .entry)) (now (constants .entry)) (now (overrides .entry)) (now (globals .entry)) (now (expressions .entry)) (now (members .entry)) (now (components .entry)) (now (mentions .entry)))
-        (length (now («type_map» .entry)) ∷ length (now («constant_map» .entry)) ∷ length (now («override_map» .entry)) ∷ length (now («global_map» .entry)) ∷ length (now («expression_map» .entry)) ∷ [])) ⌝ }
+        (length (now («type_map» .entry)) ∷ length (now («constant_map» .entry)) ∷ length (now («override_map» .entry))
+        ∷ length (now («global_map» .entry)) ∷ length (now («expression_map» .entry)) ∷ [])) ⌝ }
 {
     let lengths = [
         types.len(),

@@ -9,16 +9,32 @@ ghost use Rattle.definitions.specs.Order.{wellOrdered};
 ghost use Rattle.definitions.specs.Refusals.{runsBefore, shapedAt, heldAt};
 ghost use Rattle.arena.specs.Sizes.{sizesOf};
 ghost use Rattle.rules.specs.Rules.{sizeIn, leading};
-ghost use Rattle.faults.specs.Checking.{Measured, verdictOf, boundsAt, most, looksAt, okAt, placesIn, placesAt, carriedAt, carriedTo, inTurn, scanArea};
+ghost use Rattle.faults.specs.Checking.{Measured, verdictOf, boundsAt, most, looksAt, okAt, placesIn, placesAt};
+ghost use Rattle.faults.specs.Checking.{carriedAt, carriedTo, inTurn, scanArea};
 use crate::Fault;
 use crate::Verdict;
+use arena::AREAS;
+use arena::ARENAS;
+use arena::COMPONENTS;
+use arena::CONSTANTS;
+use arena::EXPRESSIONS;
 use arena::Expression;
 use arena::ExpressionHandle;
+use arena::GLOBALS;
+use arena::MEMBERS;
+use arena::MENTIONS;
 use arena::Mention;
+use arena::OVERRIDES;
 use arena::Sizes;
+use arena::TYPES;
 use rules::Bounds;
 use rules::Rule;
 use rules::Run;
+
+// The expression kinds that are not at module scope.
+const GLOBAL_VARIABLE: u32 = 13;
+
+const CALL_RESULT: u32 = 27;
 
 // Where the nested loops were left.
 enum Place {
@@ -35,24 +51,28 @@ pub fn arena_words<'a>(
     globals: &'a [u32],
     expressions: &'a [u32],
 ) -> &'a [u32]
-    ensures { λ r. ⌜ now r ≡ words (areasOf (now (types .entry)) (now (constants .entry)) (now (overrides .entry)) (now (globals .entry)) (now (expressions .entry)) [] [] []) (numbered area) ⌝ }
+    ensures { λ r. ⌜ now r ≡ words
+        (areasOf (now (types .entry)) (now (constants .entry)) (now (overrides .entry)) (now (globals .entry))
+        (now (expressions .entry)) [] [] [])
+        (numbered area) ⌝ }
 {
     match area {
-        0 => types,
-        1 => constants,
-        2 => overrides,
-        3 => globals,
+        TYPES => types,
+        CONSTANTS => constants,
+        OVERRIDES => overrides,
+        GLOBALS => globals,
         _ => expressions,
     }
 }
 
 // The pool that an arena's runs lie in; empty for an arena without runs.
 pub fn pool_words<'a>(area: u32, members: &'a [u32], components: &'a [u32]) -> &'a [u32]
-    ensures { λ r. ⌜ now r ≡ pool (areasOf [] [] [] [] [] (now (members .entry)) (now (components .entry)) []) (numbered area) ⌝ }
+    ensures { λ r. ⌜ now r ≡ pool
+        (areasOf [] [] [] [] [] (now (members .entry)) (now (components .entry)) []) (numbered area) ⌝ }
 {
     match area {
-        0 => members,
-        1..=3 => &members[0..0],
+        TYPES => members,
+        CONSTANTS..=GLOBALS => &members[0..0],
         _ => components,
     }
 }
@@ -69,8 +89,8 @@ fn looks_at(number: u32, area: u32) -> bool
     ensures { λ r. ⌜ r ≡ looksAt number area ⌝ }
 {
     match number {
-        5 => area == 4,
-        7 => area == 0 || area == 4,
+        5 => area == EXPRESSIONS,
+        7 => area == TYPES || area == EXPRESSIONS,
         _ => true,
     }
 }
@@ -79,13 +99,13 @@ fn looks_at(number: u32, area: u32) -> bool
 fn places(number: u32, area: u32, z: Sizes) -> u32
     ensures { λ r. ⌜ r ≡ placesIn z number area ⌝ }
 {
-    if area < 5 {
+    if area < ARENAS {
         if looks_at(number, area) {
             return own_size(area, z);
         }
         return 0;
     }
-    if area < 7 {
+    if area < MENTIONS {
         if number == 4 {
             return 1;
         }
@@ -106,8 +126,8 @@ pub struct Carried {
 // One more than any word.
 const MOST: usize = 4294967296;
 
-// A sum, as far as a word can equal it.
-pub fn capped(a: usize, b: u32) -> usize
+// The counts of the runs so far and one more, as far as a word can equal their sum.
+pub fn run_sum(a: usize, b: u32) -> usize
     requires { ⌜ a ≤ most ⌝ }
     ensures { λ r. ⌜ r ≡ min (a + b) most ⌝ }
 {
@@ -141,18 +161,18 @@ fn carry<'a>(
     let nothing = Carried { sum: 0, types: 0 };
     match number {
         4 => {
-            if 5 <= area || i == 0 {
+            if ARENAS <= area || i == 0 {
                 return nothing;
             }
             let ws = arena_words(area, types, constants, overrides, globals, expressions);
             let at = (i - 1) as usize * slots::arena_width(area);
             Carried {
-                sum: capped(before.sum, slots::span(area, ws, at)),
+                sum: run_sum(before.sum, slots::span(area, ws, at)),
                 types: 0,
             }
         }
         7 => {
-            if area != 4 {
+            if area != EXPRESSIONS {
                 return nothing;
             }
             Carried {
@@ -227,11 +247,12 @@ fn held_at<'a>(
     )
 }
 
-// Below which type and expression what a type or an expression refers to must lie; `before` types have dep below the expression.
+// Below which type and expression what a type or an expression refers to must lie.
+// `before` types have dep below the expression.
 fn bounds(area: u32, i: u32, before: u32, types: u32) -> Bounds
     ensures { λ r. ⌜ r ≡ boundsAt area i before types ⌝ }
 {
-    if area == 0 {
+    if area == TYPES {
         return Bounds {
             types: i,
             every_type: false,
@@ -318,7 +339,7 @@ fn record_fine<'a>(
         ),
         5 => {
             let kind = Expression::kind(expressions, ExpressionHandle(i));
-            kind != 13 && kind != 27
+            kind != GLOBAL_VARIABLE && kind != CALL_RESULT
         }
         6 => held_at(
             area,
@@ -370,7 +391,7 @@ fn mention_fine<'a>(
 {
     let area = Mention::area(mentions, i);
     if number == 4 {
-        return area < 5;
+        return area < ARENAS;
     }
     Mention::handle(mentions, i) < own_size(area, z)
 }
@@ -399,7 +420,7 @@ fn fine<'a>(
     ensures { λ r. ⌜ r ≡ okAt (areasOf (now (types .entry)) (now (constants .entry)) (now (overrides .entry)) (now (globals .entry)) (now (expressions .entry)) (now (members .entry)) (now (components .entry)) (now (mentions .entry))) number area i ⌝ }
 {
     match area {
-        0..=4 => record_fine(
+        TYPES..=EXPRESSIONS => record_fine(
             number,
             area,
             i,
@@ -414,8 +435,8 @@ fn fine<'a>(
             components,
             mentions,
         ),
-        5 => rules::pool_used(0, types, z.types, members.len()),
-        6 => rules::pool_used(4, expressions, z.expressions, components.len()),
+        MEMBERS => rules::pool_used(TYPES, types, z.types, members.len()),
+        COMPONENTS => rules::pool_used(EXPRESSIONS, expressions, z.expressions, components.len()),
         _ => mention_fine(
             number,
             i,
@@ -451,7 +472,7 @@ pub fn first<'a>(
     let z = Sizes::of(types, constants, overrides, globals, expressions, mentions);
     let mut area = 0;
     let place = 'areas: loop {
-        if 8 <= area {
+        if AREAS <= area {
             break 'areas Place::Nowhere;
         }
         let n = places(number, area, z);

@@ -1,4 +1,5 @@
-// dep of a type, by two levels: what the types before each block of 256 have, and one block. The scratch is 4 KiB for 65,536 types; what stands before a block past them is computed anew.
+// dep of a type, by two levels: what the types before each block of 256 have, and one block.
+// The scratch is 4 KiB for 65,536 types; what stands before a block past them is computed anew.
 ghost use mathlib.Core.Path.{_≡_};
 ghost use Prim.Native.Nat.{_*_, _≤_, _<_, max};
 ghost use lib.ListN.{length};
@@ -55,7 +56,8 @@ fn fill_block(
     k: u32,
     block: &mut [usize; 256],
 )
-    requires { ⌜ Starts (sizing (now types) (now overrides)) n (now starts) × (k * 256 < n) × (length (now block) ≡ 256) ⌝ }
+    requires { ⌜ Starts (sizing (now types) (now overrides)) n (now starts)
+        × (k * 256 < n) × (length (now block) ≡ 256) ⌝ }
     ensures { λ _. ⌜ Block (sizing (now (types .entry)) (now (overrides .entry))) k (now (block .exit)) ⌝ }
 {
     let mut deep = if k < 256 {
@@ -72,7 +74,8 @@ fn fill_block(
     }
 }
 
-// One more than dep of the last of the first t of n types, 0 where there is none. The block that it lies in is filled unless it is held.
+// One more than dep of the last of the first t of n types, 0 where there is none.
+// The block that it lies in is filled unless it is held.
 pub fn dep_before(
     types: &[u32],
     overrides: &[u32],
@@ -82,8 +85,10 @@ pub fn dep_before(
     held: &mut u32,
     block: &mut [usize; 256],
 ) -> usize
-    requires { ⌜ Starts (sizing (now types) (now overrides)) n (now starts) × (t ≤ n) × Held (sizing (now types) (now overrides)) (now held) (now block) ⌝ }
-    ensures { λ r. ⌜ (r ≡ depBefore (sizing (now (types .entry)) (now (overrides .entry))) t) × Held (sizing (now (types .entry)) (now (overrides .entry))) (now (held .exit)) (now (block .exit)) ⌝ }
+    requires { ⌜ Starts (sizing (now types) (now overrides)) n (now starts) × (t ≤ n)
+        × Held (sizing (now types) (now overrides)) (now held) (now block) ⌝ }
+    ensures { λ r. ⌜ (r ≡ depBefore (sizing (now (types .entry)) (now (overrides .entry))) t)
+        × Held (sizing (now (types .entry)) (now (overrides .entry))) (now (held .exit)) (now (block .exit)) ⌝ }
 {
     if t == 0 {
         return 0;

@@ -20,7 +20,7 @@ pub struct Left {
     pub expressions: u32,
 }
 
-// Makes the next visit, of the youngest expression where it is above dep of the youngest type, and answers what is left.
+// Makes the next visit, of the youngest expression where it is above dep of the youngest type; answers what is left.
 fn visit<'a>(
     marks: &mut [u64],
     b: Bases,
@@ -35,7 +35,8 @@ fn visit<'a>(
     components: &'a [u32],
     mentions: &'a [u32],
 ) -> Left
-    requires { ⌜ (dep ≡ depBefore (sizing (now types) (now overrides)) (left .types)) × (0 < left .types + left .expressions) ⌝ }
+    requires { ⌜ (dep ≡ depBefore (sizing (now types) (now overrides)) (left .types))
+        × (0 < left .types + left .expressions) ⌝ }
     ensures { λ r. ⌜ Visited (areasOf (now (types .entry)) (now (constants .entry)) (now (overrides .entry)) (now (globals .entry)) (now (expressions .entry)) (now (members .entry)) (now (components .entry)) (now (mentions .entry))) b left r (now (marks .entry)) (now (marks .exit)) ⌝ }
 {
     if dep < left.expressions as usize {

@@ -1,37 +1,29 @@
+-- `cadnohal_adjust` meets its contract: the number and the handle of each case.
+-- Assumes nothing.
 use mathlib.Core.Path.{ap, sym, _∙_}
 use Rattle.handle_map.specs.Answers.{adjustedOf}
 use borrow.Author.Needs.{needs}
 use Rattle.cadnohal.proofs.cadnohal_adjust.Statement.{statement}
 use Rattle.cadnohal.proofs.cadnohal_adjust.Tie as tie
-use Rattle.cadnohal.proofs.cadnohal_adjust.Reads as reads
-use Rattle.cadnohal.proofs.cadnohal_adjust.Lts as lts
-use Rattle.handle_map.proofs.adjust.Reads as adjust-reads
 
--- src/lib.rt:199:11
 adjust-requires : tie.Need-adjust-requires
 adjust-requires c κs = search needs
 
--- src/lib.rt:200:22
 enum-known-h : tie.Need-enum-known-h
 enum-known-h c = search needs
 
--- src/lib.rt:201:30
 enum-told : tie.Need-enum-told
 enum-told c = search needs
 
--- src/lib.rt:202:30
 enum-told-2 : tie.Need-enum-told-2
 enum-told-2 c = search needs
 
--- src/lib.rt:195:1
 returns : tie.Need-returns
 returns c = ap adjustedOf (sym (c .before .h .given .1)) ∙ c .before .before .before .adjust .ensures
 
--- src/lib.rt:195:1
 returns-2 : tie.Need-returns-2
 returns-2 c = ap adjustedOf (sym (c .enum-told .given .1)) ∙ c .before .before .adjust .ensures
 
--- src/lib.rt:195:1
 returns-3 : tie.Need-returns-3
 returns-3 c = ap adjustedOf (sym (c .enum-told2 .given .1)) ∙ c .before .before .adjust .ensures
 

@@ -1,29 +1,23 @@
+-- `cadnohal_adjust_range` meets its contract: the number and the range of each case.
+-- Assumes nothing.
 use mathlib.Core.Path.{ap, sym, _∙_}
 use Rattle.handle_map.specs.Answers.{rangedOf}
 use borrow.Author.Needs.{needs}
 use Rattle.cadnohal.proofs.cadnohal_adjust_range.Statement.{statement}
 use Rattle.cadnohal.proofs.cadnohal_adjust_range.Tie as tie
-use Rattle.cadnohal.proofs.cadnohal_adjust_range.Reads as reads
-use Rattle.cadnohal.proofs.cadnohal_adjust_range.Lts as lts
-use Rattle.handle_map.proofs.adjust_range.Reads as adjust-range-reads
 
--- src/lib.rt:211:11
 adjust-range-requires : tie.Need-adjust-range-requires
 adjust-range-requires c κs = search needs
 
--- src/lib.rt:212:22
 enum-known-a : tie.Need-enum-known-a
 enum-known-a c = search needs
 
--- src/lib.rt:213:28
 enum-told : tie.Need-enum-told
 enum-told c = search needs
 
--- src/lib.rt:207:1
 returns : tie.Need-returns
 returns c = ap rangedOf (sym (c .before .a .given .1)) ∙ c .before .before .before .adjust-range .ensures
 
--- src/lib.rt:207:1
 returns-2 : tie.Need-returns-2
 returns-2 c = ap rangedOf (sym (c .enum-told .given .1)) ∙ c .before .before .adjust-range .ensures
 

@@ -1,78 +1,58 @@
+-- `cadnohal_compact` meets its contract.
+-- Assumes nothing.
 use Rattle.cadnohal.proofs.Close.{boundary-closes}
 use borrow.Author.Needs.{needs}
 use Rattle.cadnohal.proofs.cadnohal_compact.Statement.{statement}
 use Rattle.cadnohal.proofs.cadnohal_compact.Tie as tie
-use Rattle.cadnohal.proofs.cadnohal_compact.Reads as reads
-use Rattle.cadnohal.proofs.cadnohal_compact.Lts as lts
-use Rattle.cadnohal.proofs.keep_from.Reads as keep-from-reads
-use Rattle.cadnohal.proofs.of_compacted.Reads as of-compacted-reads
-use Rattle.compact.proofs.compact.Reads as compact-reads
 
--- src/lib.rt:144:9
 keep-from-requires : tie.Need-keep-from-requires
 keep-from-requires c κs = search needs
 
--- src/lib.rt:130:9
 compact-requires : tie.Need-compact-requires
 compact-requires c κs = search needs
 
--- src/lib.rt:146:5
 of-compacted-requires : tie.Need-of-compacted-requires
 of-compacted-requires c κs = search needs
 
--- src/lib.rt:111:1
 same-length : tie.Need-same-length
 same-length c = search needs
 
--- src/lib.rt:111:1
 same-length-2 : tie.Need-same-length-2
 same-length-2 c = search needs
 
--- src/lib.rt:111:1
 same-length-3 : tie.Need-same-length-3
 same-length-3 c = search needs
 
--- src/lib.rt:111:1
 same-length-4 : tie.Need-same-length-4
 same-length-4 c = search needs
 
--- src/lib.rt:111:1
 same-length-5 : tie.Need-same-length-5
 same-length-5 c = search needs
 
--- src/lib.rt:111:1
 same-length-6 : tie.Need-same-length-6
 same-length-6 c = search needs
 
--- src/lib.rt:111:1
 same-length-7 : tie.Need-same-length-7
 same-length-7 c = search needs
 
--- src/lib.rt:111:1
 same-length-8 : tie.Need-same-length-8
 same-length-8 c = search needs
 
--- src/lib.rt:111:1
 same-length-9 : tie.Need-same-length-9
 same-length-9 c = search needs
 
--- src/lib.rt:111:1
 same-length-10 : tie.Need-same-length-10
 same-length-10 c = search needs
 
--- src/lib.rt:111:1
 same-length-11 : tie.Need-same-length-11
 same-length-11 c = search needs
 
--- src/lib.rt:111:1
 same-length-12 : tie.Need-same-length-12
 same-length-12 c = search needs
 
--- src/lib.rt:111:1
 same-length-13 : tie.Need-same-length-13
 same-length-13 c = search needs
 
--- src/lib.rt:111:1
 returns : tie.Need-returns
 returns c = boundary-closes _ _ _ _ (c .before .before .before .before .before .before .before .before .before .before .before .before .before .before .before .before .before .before .before .before .before .before .before .before .before .before .before .before .before .before .before .before .before .before .before .before .before .before .before .before .before .before .before .before .before .before .before .before .before .before .before .before .before .before .before .args .keep-unused) (c .before .before .before .before .before .before .before .before .before .before .before .before .before .before .before .before .before .before .before .before .before .before .before .before .before .before .before .before .keep-from .result) _ _ (c .before .before .before .before .before .before .before .before .before .before .before .before .before .before .before .before .before .before .before .before .before .before .before .before .before .before .before .before .keep-from .ensures) (c .before .before .before .before .before .before .before .before .before .before .before .before .before .before .before .before .before .before .before .before .before .before .before .before .before .before .before .compact .ensures) (c .of-compacted .ensures)
 

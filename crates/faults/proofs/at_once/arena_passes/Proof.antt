@@ -83,8 +83,8 @@ record-passes-requires c κs = spans _ _ _ _ _ (c .limits .ensures) (c .before .
 returns : tie.Need-returns Inv-loop μ-loop
 returns c e = absurd (not-both e)
 
-capped-requires : tie.Need-capped-requires Inv-loop μ-loop
-capped-requires c κs = omega (arith, c .before .before .before .before .before .before .loop .inv .1 .counted)
+run-sum-requires : tie.Need-run-sum-requires Inv-loop μ-loop
+run-sum-requires c κs = omega (arith, c .before .before .before .before .before .before .loop .inv .1 .counted)
 
 add-i : tie.Need-add-i Inv-loop μ-loop
 add-i c = omega arith
@@ -102,7 +102,7 @@ loop-again c =
     let l = leading-next s (d .args .area) i (ap (λ z. z .types) (d .pre .1 .1)) (h .leading) (c .before .before .before .before .leads .ensures) in
     let p = c .before .before .before .before .before .span .ensures in (
       omega arith,
-      walked-on s (d .args .area) i h (counted-on s a i (h .counted) (span-at s a i (c .before .before .before .before .before .before .before .before .before .before .before .arena-words .ensures) (c .before .before .before .before .before .before .before .before .before .arena-width .ensures) p) (c .capped .ensures)) l
+      walked-on s (d .args .area) i h (counted-on s a i (h .counted) (span-at s a i (c .before .before .before .before .before .before .before .before .before .before .before .arena-words .ensures) (c .before .before .before .before .before .before .before .before .before .arena-width .ensures) p) (c .run-sum .ensures)) l
           (passed-by s (d .pre .1 .0) (d .args .area) i (d .pre .0) (d .args .z) (d .pre .1 .1) (subst (λ n. i < n) (c .before .before .before .before .before .before .before .before .own-size .ensures) (c .before .before .before .before .before .before .loop-test .taken)) (fit (c .before .before .before .before .before .before .before .before .before .before .before .before) a)
           (c .before .before .before .before .before .before .before .before .before .before .before .arena-words .ensures) (c .before .before .before .before .before .before .before .before .before .before .pool-words .ensures) (c .before .before .before .before .before .before .before .before .before .arena-width .ensures) p (h .counted) l (c .before .before .before .limits .ensures) (c .before .before .record-passes .ensures) (not-false _ (c .before .if1 .left))),
     )
@@ -136,7 +136,7 @@ arena-passes-spec =
     limits-requires
     record-passes-requires
     returns
-    capped-requires
+    run-sum-requires
     add-i
     loop-less
     loop-again

@@ -46,8 +46,8 @@ mul-at c = place-fits (numbered (c .before .before .before .before .before .befo
 span-requires : tie.Need-span-requires
 span-requires c κs = search needs
 
-capped-requires : tie.Need-capped-requires
-capped-requires c κs =
+run-sum-requires : tie.Need-run-sum-requires
+run-sum-requires c κs =
     let d = c .before .before .before .before .before .before .before .before .before .before .before .before .before .before in
     subst (λ b. b .sum ≤ most) (sym (d .pre .1)) (carried-le (Given d) (d .args .number) (d .args .area) (d .args .i))
 
@@ -63,7 +63,7 @@ returns-3 : tie.Need-returns-3
 returns-3 c =
     let d = c .before .before .before .before .before .before .before .before .before .before .before .before .before .before .before in
     counts (Given d) (d .args .number) (d .args .area) (d .args .i) _ _ (d .args .before) (c .before .before .before .before .before .before .match .keys1) (c .before .before .before .before .before .if1 .left) (later (c .before .before .before .before)) (d .pre .1)
-    (c .capped .ensures)
+    (c .run-sum .ensures)
     (span-at (Given d) (numbered (d .args .area)) (d .args .i - 1) (c .before .before .before .arena-words .ensures) (c .before .before .arena-width .ensures) (c .before .span .ensures))
 
 returns-4 : tie.Need-returns-4
@@ -87,7 +87,7 @@ carry-spec =
     arena-width-requires
     mul-at
     span-requires
-    capped-requires
+    run-sum-requires
     returns-2
     prefix-requires
     returns-3
