@@ -2,4 +2,3 @@
 pub mod Stores
 pub mod Passes
 pub mod Laws
-pub mod Once

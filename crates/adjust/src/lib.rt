@@ -13,14 +13,18 @@ ghost use Rattle.adjust.specs.Rewrite.{mapsOf, mapsIn, keptBy, Empty, fr
 
 mod handles;
 
+use arena::CONSTANTS;
 use arena::Constant;
 use arena::Expression;
 use arena::ExpressionHandle;
+use arena::GLOBALS;
 use arena::Global;
 use arena::Mention;
 use arena::N;
+use arena::OVERRIDES;
 use arena::Override;
 use arena::TAIL;
+use arena::TYPES;
 use arena::Type;
 use arena::TypeHandle;
 use slots::Arena;
@@ -213,9 +217,9 @@ fn adjust_body<'a>(
         (wordsFrom (now (ws .entry)) from) 0 (body (numbered area) (wordsFrom (now (ws .entry)) from))) ⌝ }
 {
     match area {
-        1 => adjust_named(ws, from, to, true, type_map, expression_map),
-        2 => adjust_named(ws, from, to, false, type_map, expression_map),
-        3 => adjust_typed(ws, from, to, false, type_map, expression_map),
+        CONSTANTS => adjust_named(ws, from, to, true, type_map, expression_map),
+        OVERRIDES => adjust_named(ws, from, to, false, type_map, expression_map),
+        GLOBALS => adjust_typed(ws, from, to, false, type_map, expression_map),
         _ => {
             let shape = slots::shape(area, ws, from);
             adjust_record(
@@ -323,10 +327,10 @@ fn free_records(area: u32, ws: &mut [u32], from: usize)
     ensures { λ _. ⌜ now (ws .exit) ≡ freedFrom from (now (ws .entry)) ⌝ }
 {
     match area {
-        0 => free(ws, from, &Type::empty()),
-        1 => free(ws, from, &Constant::empty()),
-        2 => free(ws, from, &Override::empty()),
-        3 => free(ws, from, &Global::empty()),
+        TYPES => free(ws, from, &Type::empty()),
+        CONSTANTS => free(ws, from, &Constant::empty()),
+        OVERRIDES => free(ws, from, &Override::empty()),
+        GLOBALS => free(ws, from, &Global::empty()),
         _ => free(ws, from, &Expression::empty()),
     }
 }
@@ -401,7 +405,7 @@ fn run_word(area: u32, w: u32, own: &[u32]) -> u32
     ensures { λ r. ⌜ r ≡ lookup (now (own .entry)) w ⌝ }
 {
     match area {
-        0 => handles::type_after(own, TypeHandle(w)).0,
+        TYPES => handles::type_after(own, TypeHandle(w)).0,
         _ => handles::expression_after(own, ExpressionHandle(w)).0,
     }
 }

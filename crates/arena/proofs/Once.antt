@@ -1,4 +1,4 @@
--- Each public contract allows one outcome.
+-- Each public contract that is no equation with the answer itself allows one outcome.
 -- Assumes nothing.
 use mathlib.Core.Path.{_≡_, ap, sym, _∙_}
 use mathlib.Core.List.{List}
@@ -9,11 +9,12 @@ use Rattle.arena.specs.declared.ExpressionHandle.{ExpressionHandle}
 use Rattle.arena.specs.HandleSet.{member, Inserted, Cleared}
 use Rattle.arena.proofs.Sets.{Fit, words-equal}
 
--- an equation with a definition: every reader of words, `count`, `empty`, `width`, `limit`, `Bases::of`, `Sizes::of`, `bit`, `contains`, `contains_bit`, `bit_at`
-pub equal-once : {A : Type 0} {v r r′ : A} → r ≡ v → r′ ≡ v → r ≡ r′
-equal-once p q = p ∙ sym q
+-- what can be read back from what a contract says of it is told apart by that
+pub read-back : {X Y : Type 0} (f : X → Y) (back : Y → X) → ((x : X) → back (f x) ≡ x)
+    → {y : Y} (r q : X) → f r ≡ y → f q ≡ y → r ≡ q
+read-back f back same r q a b = sym (same r) ∙ ap back (a ∙ sym b) ∙ same q
 
--- the same of a handle: `ty`
+-- an equation of a handle's word: `ty`
 pub type-once : {v : ℕ} {r r′ : TypeHandle} → r .0 ≡ v → r′ .0 ≡ v → r ≡ r′
 type-once p q = λ i. record { 0 = (p ∙ sym q) i }
 

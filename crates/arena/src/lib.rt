@@ -26,6 +26,7 @@ pub use records::Override;
 pub use records::TAIL;
 pub use records::Type;
 pub use records::capped;
+pub use records::least;
 pub use records::limit;
 pub use records::width;
 pub use sizes::Sizes;

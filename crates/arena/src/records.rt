@@ -63,6 +63,16 @@ pub fn limit(area: usize) -> usize
     0
 }
 
+// The smaller of two.
+pub fn least(a: usize, b: usize) -> usize
+    ensures { λ r. ⌜ r ≡ min a b ⌝ }
+{
+    if a < b {
+        return a;
+    }
+    b
+}
+
 // A sum of words, as far as a word goes.
 pub fn capped(a: u32, b: u32) -> u32
     ensures { λ r. ⌜ r ≡ min (a + b) N ⌝ }

@@ -5,7 +5,7 @@ use mathlib.Core.Bool.{not}
 use Prim.Native.Nat.{ℕ}
 use borrow.Author.Tests.{ne-eqb}
 use Rattle.definitions.specs.Areas.{Areas}
-use Rattle.definitions.specs.Outcome.{Maps, Outcome, outcome}
+use Rattle.definitions.specs.Outcome.{Maps, outcome}
 use Rattle.compact.specs.Answer.{keepOf, outcomeWith, Compacts}
 use Rattle.compact.specs.declared.Compacted.{Compacted}
 use Rattle.compact.specs.declared.Compacted.the-variants.{Kept, Refused}

@@ -1,22 +1,15 @@
--- Each contract allows one outcome. That of `cadnohal_lookup` is the contract of `handle_map::lookup`: `lookup-once` there.
+-- Each contract that is no equation with the answer itself allows one outcome.
 -- Assumes nothing.
 use mathlib.Core.Path.{_≡_, ap, sym, _∙_}
-use mathlib.Core.List.{List}
 use Prim.Native.Nat.{ℕ}
 use lib.ListN.{getD}
 use Rattle.definitions.specs.Areas.{Words, Areas}
-use Rattle.definitions.specs.Refusals.{check, reported}
 use Rattle.definitions.specs.Outcome.{Maps}
 use Rattle.definitions.specs.MapEntries.{adjust, range}
-use Rattle.arena.proofs.Once.{equal-once}
 use Rattle.cadnohal.specs.declared.Answer.{Answer}
 use Rattle.cadnohal.specs.declared.AdjustedAnswer.{AdjustedAnswer}
 use Rattle.cadnohal.specs.declared.RangeAnswer.{RangeAnswer}
-use Rattle.cadnohal.specs.Boundary.{answerTo, outcomeIn, adjustedIn, rangedIn}
-
--- `cadnohal_check`
-pub check-once : (s : Areas) (maps : List ℕ) {r q : Answer} → r ≡ answerTo (reported (check s maps)) → q ≡ answerTo (reported (check s maps)) → r ≡ q
-check-once s maps a b = equal-once a b
+use Rattle.cadnohal.specs.Boundary.{outcomeIn, adjustedIn, rangedIn}
 
 -- `cadnohal_adjust`
 pub adjust-once : (map : Words) (h : ℕ) {r q : AdjustedAnswer} → adjustedIn r ≡ adjust map h → adjustedIn q ≡ adjust map h → r ≡ q

@@ -1,15 +1,14 @@
 -- The compacted module is accepted, a second pass keeps all of it, and changes nothing.
 -- Assumes nothing.
 use mathlib.Core.Path.{_≡_, refl, sym, ap, ap₂, subst, _∙_}
-use mathlib.Core.Bool.{Bool, true, false, cond, _&&_}
-use mathlib.Core.Logic.{_⊎_, ⊎-elim}
+use mathlib.Core.Bool.{Bool, true, false, cond}
 use mathlib.Core.List.{List, [], _∷_, _++_, map}
 use Prim.Native.Nat.{ℕ, zero, suc, _+_, _*_, _/_, _%_, _-_, _≤_, _<_, suc-le-suc, zero-le}
 use native.Mathlib.Nat.{le-refl, le-trans, mul-div-cancel, mul-mod-left, mul-zero, mod-one, div-one, le-of-suc-le-suc, zero-lt-suc, add-suc, suc-add, zero-add, add-zero}
 use native.Mathlib.Numerals.{add-one}
 use native.Mathlib.Omega.{arith}
 use lib.Dec.{T, eqb, leb, ltb, eqb→eq, leb→le, eqb-refl, le→leb, lt→ltb, ltb→lt, lit<}
-use borrow.Author.Tests.{eqb-false, eqb-true, eq-eqb, ne-eqb}
+use borrow.Author.Tests.{eqb-false, eqb-true, ne-eqb}
 use lib.ListN.{length, getD}
 use Rattle.definitions.specs.Lists.{all, always, gather, total}
 use Rattle.definitions.specs.Areas.{recordsOf, Areas, Arena, Elem, N, Words, allWords, at, constants, expressions, globals, lengthOf, limits, mentionCount, mentionWord, numbered, overrides, pool, size, types, width, widths, word, words}
@@ -22,7 +21,7 @@ use Rattle.definitions.specs.Refusals.{every, held, heldAt, inside as te
 use Rattle.definitions.specs.Numbering.{isKept, moved, newHandle, rank}
 use Rattle.definitions.specs.Records.{adjusted, keptAreas, mentionAfter, mentionsUpTo, runsUpTo, startAfter}
 use Rattle.definitions.proofs.ListLaws.{total-share, length-gather, gather-word, total-cong, total-scale, total-any}
-use Rattle.definitions.proofs.Least.{_∈_, and-left, and-right, both, Within, within-each, map-within, Closed, here, there, cons-cases, none-in, append-left, append-right, reached, reached-within}
+use Rattle.definitions.proofs.Least.{_∈_, and-left, and-right, both, Within, within-each, map-within, Closed, here, there, append-left, append-right, reached, reached-within}
 use Rattle.definitions.proofs.Accepted.{Sound, Accepted}
 use Rattle.definitions.proofs.Kept.{OrderedOn, SlotHolds, EachSlot, all-within, sized-past, Inside, inside-lt}
 use Rattle.definitions.proofs.Places.{new-kept, new-mono, rank-le, rank-mono, rank-below, no-gap}

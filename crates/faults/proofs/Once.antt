@@ -4,6 +4,7 @@ use mathlib.Core.Path.{_≡_, refl, sym, ap, _∙_}
 use mathlib.Core.Bool.{cond}
 use Rattle.definitions.specs.Refusals as R
 use Rattle.definitions.specs.Refusals.{accepted, refused, reported}
+use Rattle.arena.proofs.Once.{read-back}
 use Rattle.faults.specs.declared.Verdict.{Verdict}
 use Rattle.faults.specs.declared.Verdict.the-variants.{Accepted, Refused}
 use Rattle.faults.specs.Checking.{reportOf, verdictOf}
@@ -32,7 +33,7 @@ read-same (refused nr a h) = refl
 
 -- `check`
 pub verdict-once : {w : R.Report} (r q : Verdict) → reportOf r ≡ w → reportOf q ≡ w → r ≡ q
-verdict-once r q a b = sym (code-same r) ∙ ap code-of (a ∙ sym b) ∙ code-same q
+verdict-once = read-back reportOf code-of code-same
 
 -- the verdict that was reported
 pub verdict-told : (r : Verdict) (v : R.Verdict) → reportOf r ≡ reported v → verdictOf r ≡ v

@@ -4,4 +4,3 @@ pub mod Behind
 pub mod Every
 pub mod Laws
 pub mod AtOnce
-pub mod Once

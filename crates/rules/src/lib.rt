@@ -14,12 +14,15 @@ ghost use Rattle.arena.specs.Elements.{elementOf};
 ghost use Rattle.slots.specs.Codes.{decoded, unpacked, wordsFrom, arenaOf, slotOf, spanIn};
 ghost use Rattle.slots.specs.Part.{part};
 ghost use Rattle.rules.specs.Rules.{sizeIn, shapedBy, heldBy, within, asked, empty, fitBy, typedBy, goodBy, leading};
+use arena::CONSTANTS;
 use arena::Constant;
 use arena::ConstantHandle;
 use arena::Element;
 use arena::ExpressionHandle;
+use arena::GLOBALS;
 use arena::Global;
 use arena::N;
+use arena::OVERRIDES;
 use arena::Override;
 use arena::OverrideHandle;
 use arena::Sizes;
@@ -377,15 +380,15 @@ pub fn record_good(
     ensures { λ r. ⌜ r ≡ every (goodBy (now (constants .entry)) (now (overrides .entry)) l) (wordsFrom (now (ws .entry)) at) 0 (body (numbered area) (wordsFrom (now (ws .entry)) at)) ⌝ }
 {
     match area {
-        1 => {
+        CONSTANTS => {
             slots::word(ws, at, Constant::NAMED) < 2
                 && typed_good(l, ws, at, Constant::TYPE, Constant::INIT, true)
         }
-        2 => {
+        OVERRIDES => {
             slots::word(ws, at, Override::NAMED) < 2
                 && typed_good(l, ws, at, Override::TYPE, Override::INIT, false)
         }
-        3 => typed_good(l, ws, at, Global::TYPE, Global::INIT, false),
+        GLOBALS => typed_good(l, ws, at, Global::TYPE, Global::INIT, false),
         _ => slots_good(
             l,
             ws,

@@ -1,6 +1,6 @@
--- Each public contract allows one outcome.
+-- Each public contract that is no equation with the answer itself allows one outcome.
 -- Assumes nothing.
-use mathlib.Core.Path.{_≡_, refl, sym, ap, _∙_}
+use mathlib.Core.Path.{_≡_, refl, ap}
 use Rattle.definitions.specs.Areas as areas
 use Rattle.definitions.specs.Areas.{Elem, at, types, constants, overrides, globals, expressions}
 use Rattle.definitions.specs.Slots as slots
@@ -8,17 +8,12 @@ use Rattle.definitions.specs.Slots.{unused, free, below, must, may, start, coun
 use Rattle.arena.specs.Elements.{elementOf}
 use Rattle.arena.specs.declared.Element.{Element}
 use Rattle.arena.specs.declared.Element.the-variants.{«Type», Constant, Override, Global, Expression}
-use Rattle.arena.proofs.Once.{equal-once}
+use Rattle.arena.proofs.Once.{read-back}
 use Rattle.slots.specs.Codes.{arenaOf, slotOf}
 use Rattle.slots.specs.declared.Arena.{Arena}
 use Rattle.slots.specs.declared.Arena.the-variants.{Types, Constants, Overrides, Globals, Expressions}
 use Rattle.slots.specs.declared.Slot.{Slot}
 use Rattle.slots.specs.declared.Slot.the-variants.{Unused, Free, Below, Must, May, Start, Count}
-
--- a map with an inverse gives no value twice
-module _ {A B : Type 0} (f : A → B) (g : B → A) (back : (r : A) → g (f r) ≡ r) where
-  unmapped : {v : B} (r r′ : A) → f r ≡ v → f r′ ≡ v → r ≡ r′
-  unmapped r r′ p q = sym (back r) ∙ ap g (equal-once p q) ∙ back r′
 
 -- the code's arena, slot and element from document 01's
 abbrev toArena : areas.Arena → Arena
@@ -67,18 +62,14 @@ same-element (Override h) = refl
 same-element (Global h) = refl
 same-element (Expression h) = refl
 
--- an equation with a definition: `word`, `expression_shape`, `shape`, `span`, `arena_width`, and the words of `run`
-pub answer-once : {A : Type 0} {v r r′ : A} → r ≡ v → r′ ≡ v → r ≡ r′
-answer-once = equal-once
-
 -- `arena_at`
 pub arena-once : {v : areas.Arena} (r r′ : Arena) → arenaOf r ≡ v → arenaOf r′ ≡ v → r ≡ r′
-arena-once = unmapped arenaOf toArena same-arena
+arena-once = read-back arenaOf toArena same-arena
 
 -- `first`
 pub slot-once : {v : slots.Slot} (r r′ : Slot) → slotOf r ≡ v → slotOf r′ ≡ v → r ≡ r′
-slot-once = unmapped slotOf toSlot same-slot
+slot-once = read-back slotOf toSlot same-slot
 
 -- `element`
 pub element-once : {v : Elem} (r r′ : Element) → elementOf r ≡ v → elementOf r′ ≡ v → r ≡ r′
-element-once = unmapped elementOf toElement same-element
+element-once = read-back elementOf toElement same-element

@@ -3,23 +3,28 @@ pub mod code;
 mod shapes;
 
 ghost use mathlib.Core.Path.{_≡_};
-ghost use Prim.Native.Nat.{_+_, _%_, min};
+ghost use Prim.Native.Nat.{_+_, _%_};
 ghost use lib.ListN.{getD};
 ghost use Rattle.definitions.specs.Areas.{numbered, at, width};
 ghost use Rattle.definitions.specs.Slots.{formOf, body};
 ghost use Rattle.slots.specs.Codes.{decoded, packed, arenaOf, slotOf, wordsFrom, spanIn, runIn};
 ghost use Rattle.arena.specs.Elements.{elementOf};
+use arena::CONSTANTS;
 use arena::Constant;
 use arena::ConstantHandle;
 use arena::Element;
 use arena::Expression;
 use arena::ExpressionHandle;
+use arena::GLOBALS;
 use arena::Global;
 use arena::GlobalHandle;
+use arena::OVERRIDES;
 use arena::Override;
 use arena::OverrideHandle;
+use arena::TYPES;
 use arena::Type;
 use arena::TypeHandle;
+use arena::least;
 pub use shapes::expression_shape;
 
 // The five arenas.
@@ -107,10 +112,10 @@ pub fn shape(area: u32, ws: &[u32], at: usize) -> u64
     ensures { λ r. ⌜ r ≡ packed (body (numbered area) (wordsFrom (now (ws .entry)) at)) ⌝ }
 {
     match area {
-        0 => shapes::type_shape(word(ws, at, Type::KIND)),
-        1 => shapes::CONSTANT,
-        2 => shapes::OVERRIDE,
-        3 => shapes::GLOBAL,
+        TYPES => shapes::type_shape(word(ws, at, Type::KIND)),
+        CONSTANTS => shapes::CONSTANT,
+        OVERRIDES => shapes::OVERRIDE,
+        GLOBALS => shapes::GLOBAL,
         _ => expression_shape(word(ws, at, Expression::KIND), form(ws, at)),
     }
 }
@@ -120,12 +125,12 @@ pub fn span(area: u32, ws: &[u32], at: usize) -> u32
     ensures { λ r. ⌜ r ≡ spanIn (numbered area) (wordsFrom (now (ws .entry)) at) ⌝ }
 {
     match area {
-        0 => {
+        TYPES => {
             if word(ws, at, Type::KIND) == 3 {
                 return word(ws, at, shapes::RUN_COUNT);
             }
         }
-        1..=3 => {}
+        CONSTANTS..=GLOBALS => {}
         _ => {
             if word(ws, at, Expression::KIND) == 8 {
                 return word(ws, at, shapes::RUN_COUNT);
@@ -133,16 +138,6 @@ pub fn span(area: u32, ws: &[u32], at: usize) -> u32
         }
     }
     0
-}
-
-// The smaller of two.
-fn least(a: usize, b: usize) -> usize
-    ensures { λ r. ⌜ r ≡ min a b ⌝ }
-{
-    if a < b {
-        return a;
-    }
-    b
 }
 
 // The run of the record that starts at a place, as part of its pool.
@@ -162,10 +157,10 @@ pub fn arena_at(area: u32) -> Arena
     ensures { λ r. ⌜ arenaOf r ≡ numbered area ⌝ }
 {
     match area {
-        0 => Arena::Types,
-        1 => Arena::Constants,
-        2 => Arena::Overrides,
-        3 => Arena::Globals,
+        TYPES => Arena::Types,
+        CONSTANTS => Arena::Constants,
+        OVERRIDES => Arena::Overrides,
+        GLOBALS => Arena::Globals,
         _ => Arena::Expressions,
     }
 }
@@ -175,10 +170,10 @@ pub fn arena_width(area: u32) -> usize
     ensures { λ r. ⌜ r ≡ width (numbered area) ⌝ }
 {
     match area {
-        0 => Type::WIDTH,
-        1 => Constant::WIDTH,
-        2 => Override::WIDTH,
-        3 => Global::WIDTH,
+        TYPES => Type::WIDTH,
+        CONSTANTS => Constant::WIDTH,
+        OVERRIDES => Override::WIDTH,
+        GLOBALS => Global::WIDTH,
         _ => Expression::WIDTH,
     }
 }

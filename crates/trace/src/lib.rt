@@ -13,6 +13,7 @@ ghost use Rattle.slots.specs.Part.{part};
 ghost use Rattle.trace.specs.Bits.{added, bitsOf, Holds, Put, Marked, visitBits};
 use arena::Constant;
 use arena::ConstantHandle;
+use arena::EXPRESSIONS;
 use arena::Element;
 use arena::ExpressionHandle;
 use arena::Global;
@@ -20,6 +21,7 @@ use arena::GlobalHandle;
 use arena::N;
 use arena::Override;
 use arena::OverrideHandle;
+use arena::TYPES;
 use arena::TypeHandle;
 use arena::handle_set;
 use arena::handle_set::Bases;
@@ -196,7 +198,7 @@ pub fn trace_type<'a>(
         trace(
             marks,
             b,
-            0,
+            TYPES,
             h.0,
             types,
             members,
@@ -227,7 +229,7 @@ pub fn trace_expression<'a>(
         trace(
             marks,
             b,
-            4,
+            EXPRESSIONS,
             h.0,
             expressions,
             components,

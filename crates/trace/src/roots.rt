@@ -6,12 +6,16 @@ ghost use Rattle.definitions.specs.Areas.{areasOf, numbered};
 ghost use Rattle.definitions.specs.Roots.{mention};
 ghost use Rattle.trace.specs.Bits.{Marked, rootIn, thoseIn, rootsIn};
 use crate::mark;
+use arena::CONSTANTS;
 use arena::Constant;
 use arena::ConstantHandle;
+use arena::GLOBALS;
 use arena::Mention;
+use arena::OVERRIDES;
 use arena::Override;
 use arena::OverrideHandle;
 use arena::Sizes;
+use arena::TYPES;
 use arena::Type;
 use arena::TypeHandle;
 use arena::handle_set::Bases;
@@ -32,16 +36,16 @@ fn is_root<'a>(
     ensures { λ r. ⌜ r ≡ rootIn (areasOf (now (types .entry)) (now (constants .entry)) (now (overrides .entry)) (now (globals .entry)) (now (expressions .entry)) (now (members .entry)) (now (components .entry)) (now (mentions .entry))) (numbered area) i ⌝ }
 {
     match area {
-        0 => Type::flags(types, TypeHandle(i)) % 2 == 1,
-        1 => {
+        TYPES => Type::flags(types, TypeHandle(i)) % 2 == 1,
+        CONSTANTS => {
             if Constant::named(constants, ConstantHandle(i)) != 1 {
                 return false;
             }
             let ty = Constant::ty(constants, ConstantHandle(i));
             Type::flags(types, ty) / 2 != 1
         }
-        2 => Override::named(overrides, OverrideHandle(i)) == 1,
-        3 => true,
+        OVERRIDES => Override::named(overrides, OverrideHandle(i)) == 1,
+        GLOBALS => true,
         _ => false,
     }
 }
@@ -154,7 +158,7 @@ pub fn mark_roots<'a>(
     mark_those(
         marks,
         b,
-        1,
+        CONSTANTS,
         n.constants,
         types,
         constants,
@@ -169,7 +173,7 @@ pub fn mark_roots<'a>(
         mark_those(
             marks,
             b,
-            3,
+            GLOBALS,
             n.globals,
             types,
             constants,
@@ -183,7 +187,7 @@ pub fn mark_roots<'a>(
         mark_those(
             marks,
             b,
-            2,
+            OVERRIDES,
             n.overrides,
             types,
             constants,
@@ -197,7 +201,7 @@ pub fn mark_roots<'a>(
         mark_those(
             marks,
             b,
-            0,
+            TYPES,
             n.types,
             types,
             constants,

@@ -8,6 +8,7 @@
 ghost use Prim.Native.Nat.{_≤_};
 ghost use lib.ListN.{length};
 use arena::N;
+use arena::least;
 use libc::STDIN_FILENO;
 use libc::STDOUT_FILENO;
 
@@ -93,16 +94,6 @@ fn step(r: Reading, b: u8, letter: u8, width: usize) -> Reading {
         here,
         back: reach(back, b, width),
     }
-}
-
-// The smaller of two.
-fn least(a: usize, b: usize) -> usize
-    ensures { λ r. ⌜ (r ≤ a) × (r ≤ b) ⌝ }
-{
-    if a < b {
-        return a;
-    }
-    b
 }
 
 // The words from a start to an end, as far as there are any.

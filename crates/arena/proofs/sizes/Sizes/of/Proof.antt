@@ -3,7 +3,7 @@
 use mathlib.Core.Path.{_≡_, ap, _∙_}
 use Prim.Native.Nat.{ℕ, min}
 use borrow.Author.Needs.{needs}
-use Rattle.definitions.specs.Areas.{N, width}
+use Rattle.definitions.specs.Areas.{N}
 use Rattle.arena.specs.Sizes.{countedIn}
 use Rattle.arena.proofs.sizes.Sizes.of.Statement.{statement}
 use Rattle.arena.proofs.sizes.Sizes.of.Tie as tie
