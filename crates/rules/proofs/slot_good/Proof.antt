@@ -2,17 +2,12 @@
 -- Assumes nothing.
 use mathlib.Core.Path.{_≡_, refl, sym, subst}
 use mathlib.Core.Bool.{Bool}
-use mathlib.Core.List.{List, [], _∷_}
 use Prim.Native.Nat.{ℕ}
-use native.Mathlib.Decide.{decLe}
-use native.Mathlib.Omega.{arith}
-use lib.ListN.{List·getD-eq-default}
 use borrow.Author.Needs.{needs}
 use borrow.Author.Tests.{eq-eqb, ne-eqb}
 use Rattle.definitions.specs.Areas.{Words, N, numbered}
-use Rattle.definitions.specs.Slots.{unused}
 use Rattle.slots.specs.Codes.{codes, decoded}
-use Rattle.slots.proofs.Decision.{NoneOf, in-range}
+use Rattle.slots.proofs.LastCode.{no-code}
 use Rattle.rules.specs.declared.Limits.{Limits}
 use Rattle.rules.specs.Rules.{fitBy, goodBy}
 use Rattle.rules.proofs.Arms.{and-first, and-second}
@@ -27,18 +22,6 @@ table = 0
 -- r is the answer for the code
 abbrev Right : Words → Words → Limits → ℕ → Bool → ℕ → Type 0
 Right c o l w r code = r ≡ goodBy c o l (decoded code) w
-
--- the codes of the arms, the last first
-abbrev keys : List (List ℕ)
-keys = (12 ∷ []) ∷ (11 ∷ []) ∷ (10 ∷ []) ∷ (9 ∷ []) ∷ (8 ∷ []) ∷ (7 ∷ []) ∷ (6 ∷ []) ∷ (5 ∷ []) ∷ (4 ∷ []) ∷ (3 ∷ []) ∷ (2 ∷ []) ∷ (1 ∷ []) ∷ []
-
--- any other is that of an unused slot
-none : (code : ℕ) → NoneOf keys code → unused ≡ decoded code
-unfolding table
-none code n = elim (decLe 13 code) [
-  | yes l ↦ sym (List·getD-eq-default codes unused l)
-  | no l ↦ in-range (λ code. unused ≡ decoded code) keys 0 13 (refl, (tt, (tt, (tt, (tt, (tt, (tt, (tt, (tt, (tt, (tt, (tt, (tt, tt))))))))))))) code n (omega arith) (omega arith)
-]
 
 -- the answer for the code of an arm
 of-code : (c o : Words) (l : Limits) (w k : ℕ) {r : Bool} {code : ℕ} → Right c o l w r k → code ≡ k → Right c o l w r code
@@ -114,7 +97,7 @@ returns-14 c = of-code _ _ _ _ 12 refl (c .match .keys12)
 
 returns-15 : tie.Need-returns-15
 unfolding table
-returns-15 c = rw (← none _ (c .match .rest))
+returns-15 c = rw (← no-code _ (c .match .rest))
 
 pub slot-good-spec : {M : Type 1} → statement M
 slot-good-spec =
