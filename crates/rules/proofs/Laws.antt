@@ -2,7 +2,7 @@
 -- Assumes nothing.
 use mathlib.Core.Path.{_≡_, refl, sym, ap, ap₂, _∙_}
 use mathlib.Core.Bool.{Bool, true, false, _&&_, _||_, cond, and-assoc}
-use mathlib.Core.List.{List, [], _∷_, _++_, append-assoc}
+use mathlib.Core.List.{List, [], _∷_, _++_}
 use Prim.Native.Nat.{ℕ, zero, suc, _+_, _-_, _*_, _%_, _≤_, _<_, min}
 use native.Mathlib.Decide.{decLe}
 use native.Mathlib.Omega.{arith}
@@ -13,11 +13,12 @@ use Rattle.definitions.specs.Lists.{all}
 use Rattle.definitions.specs.Areas.{N, Arena, Areas, Elem, areasOf, at, types, constants, overrides, globals, expressions, width, words, word, size, pool}
 use Rattle.definitions.specs.Slots.{Slot, unused, free, below, must, may, start, count}
 use Rattle.definitions.specs.References.{span, namedBy, namedFrom}
-use Rattle.definitions.specs.Order.{behind, withBehind, sizedBy, pastDep}
+use Rattle.definitions.specs.Order.{withBehind, sizedBy, pastDep}
 use Rattle.definitions.specs.Refusals.{every, runsBefore, shaped, inside, held}
 use Rattle.definitions.proofs.Kept.{sized-past}
 use Rattle.definitions.proofs.Tandem.{past-mono}
 use Rattle.arena.specs.Sizes.{sizesOf}
+use Rattle.slots.proofs.Laws.{behind-append}
 use Rattle.rules.specs.declared.Run.{Run}
 use Rattle.rules.specs.Rules.{sizeIn, shapedBy, heldBy, leading}
 
@@ -69,12 +70,6 @@ all-append : (p : Elem → Bool) (l r : List Elem) → all p (l ++ r) ≡ all p 
 unfolding all
 all-append p [] r = refl
 all-append p (x ∷ l) r = ap (λ b. p x && b) (all-append p l r) ∙ sym (and-assoc (p x) (all p l) (all p r))
-
-behind-append : (q : Areas) (l r : List Elem) → withBehind q (l ++ r) ≡ withBehind q l ++ withBehind q r
-unfolding withBehind
-behind-append q [] r = refl
-behind-append q (x ∷ l) r =
-    ap (λ m. x ∷ (behind q x ++ m)) (behind-append q l r) ∙ ap (λ m. x ∷ m) (sym (append-assoc (behind q x) (withBehind q l) (withBehind q r)))
 
 -- a test of all that the slots name, and of what stands behind it, is asked slot by slot
 pub ordered-list : (p : Elem → Bool) (q : Areas) (f : ℕ → ℕ) (k : ℕ) (l : List Slot)

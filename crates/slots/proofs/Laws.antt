@@ -2,7 +2,7 @@
 -- Assumes nothing.
 use mathlib.Core.Path.{_≡_, refl, sym, ap, ap₂, _∙_}
 use mathlib.Core.Bool.{Bool, true, _&&_}
-use mathlib.Core.List.{List, [], _∷_, _++_}
+use mathlib.Core.List.{List, [], _∷_, _++_, append-assoc}
 use Prim.Native.Nat.{ℕ, zero, suc, _+_, _≤_}
 use native.Mathlib.Nat.{le-of-suc-le-suc, not-suc-le-zero}
 use native.Mathlib.Omega.{arith}
@@ -113,3 +113,10 @@ pub behind-part : (s : Areas) (xs : List Elem) → withBehind s xs ≡ withBehin
 unfolding withBehind
 behind-part s [] = refl
 behind-part s (x ∷ xs) = ap₂ (λ l r. x ∷ (l ++ r)) (behind-of s x) (behind-part s xs)
+
+-- and behind some elements and then more
+pub behind-append : (s : Areas) (l r : List Elem) → withBehind s (l ++ r) ≡ withBehind s l ++ withBehind s r
+unfolding withBehind
+behind-append s [] r = refl
+behind-append s (x ∷ l) r =
+    ap (λ m. x ∷ (behind s x ++ m)) (behind-append s l r) ∙ ap (λ m. x ∷ m) (sym (append-assoc (behind s x) (withBehind s l) (withBehind s r)))

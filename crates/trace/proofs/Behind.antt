@@ -1,7 +1,7 @@
 -- Elements with all that is marked with them: one element, by its arena, and some and then more.
 -- Assumes nothing.
 use mathlib.Core.Path.{_≡_, refl, sym, ap, ap₂, subst, _∙_}
-use mathlib.Core.List.{List, [], _∷_, _++_, map, map-append, append-assoc, append-nil}
+use mathlib.Core.List.{List, [], _∷_, _++_, map, map-append, append-nil}
 use Prim.Native.Nat.{ℕ}
 use Rattle.definitions.specs.Areas.{Areas, Elem, at, types, constants, overrides, globals, expressions, wordOf, word, words}
 use Rattle.definitions.specs.Slots.{may, slots, body, layout}
@@ -10,15 +10,9 @@ use Rattle.definitions.specs.Order.{behind, withBehind}
 use Rattle.arena.specs.HandleSet.{bit, Inserted}
 use Rattle.arena.specs.declared.handle_set.Bases.{Bases}
 use Rattle.slots.specs.Part.{part}
-use Rattle.slots.proofs.Laws.{behind-part}
+use Rattle.slots.proofs.Laws.{behind-append, behind-part}
 use Rattle.trace.specs.Bits.{bitsOf, Put, Marked}
 use Rattle.trace.proofs.Sets.{put-none, put-one, put-more, Left, left-turn, left-done}
-
-behind-append : (s : Areas) (l r : List Elem) → withBehind s (l ++ r) ≡ withBehind s l ++ withBehind s r
-unfolding withBehind
-behind-append s [] r = refl
-behind-append s (x ∷ l) r =
-    ap (λ m. x ∷ (behind s x ++ m)) (behind-append s l r) ∙ ap (λ m. x ∷ m) (sym (append-assoc (behind s x) (withBehind s l) (withBehind s r)))
 
 pub bits-append : (s : Areas) (b : Bases) (l r : List Elem) → bitsOf s b (l ++ r) ≡ bitsOf s b l ++ bitsOf s b r
 unfolding bitsOf

@@ -87,41 +87,36 @@ slots-good-requires c κs = search needs
 returns : tie.Need-returns
 returns c =
     let a = c .before .before .before .before .before .before .before .args in
-    let f = wordsFrom (a .ws .now) (a .at) in
-    at-keys (Right (a .constants .now) (a .overrides .now) (a .l) f _) (1 ∷ [])
-    (of-constant (a .constants .now) (a .overrides .now) (a .l) f (c .before .before .word .ensures) (c .before .if1 .taken) (c .typed-good .ensures), tt)
+    at-keys (Right (a .constants .now) (a .overrides .now) (a .l) _ _) (1 ∷ [])
+    (of-constant _ _ _ _ (c .before .before .word .ensures) (c .before .if1 .taken) (c .typed-good .ensures), tt)
     _ (c .before .before .before .match .keys1)
 
 returns-2 : tie.Need-returns-2
 returns-2 c =
     let a = c .before .before .before .before .before .before .args in
-    let f = wordsFrom (a .ws .now) (a .at) in
-    at-keys (Right (a .constants .now) (a .overrides .now) (a .l) f _) (1 ∷ [])
-    (no-constant (a .constants .now) (a .overrides .now) (a .l) f (c .before .word .ensures) (c .if1 .left), tt)
+    at-keys (Right (a .constants .now) (a .overrides .now) (a .l) _ _) (1 ∷ [])
+    (no-constant _ _ _ _ (c .before .word .ensures) (c .if1 .left), tt)
     _ (c .before .before .match .keys1)
 
 returns-3 : tie.Need-returns-3
 returns-3 c =
     let a = c .before .before .before .before .before .before .before .args in
-    let f = wordsFrom (a .ws .now) (a .at) in
-    at-keys (Right (a .constants .now) (a .overrides .now) (a .l) f _) (2 ∷ [])
-    (of-override (a .constants .now) (a .overrides .now) (a .l) f (c .before .before .word2 .ensures) (c .before .if2 .taken) (c .typed-good2 .ensures), tt)
+    at-keys (Right (a .constants .now) (a .overrides .now) (a .l) _ _) (2 ∷ [])
+    (of-override _ _ _ _ (c .before .before .word2 .ensures) (c .before .if2 .taken) (c .typed-good2 .ensures), tt)
     _ (c .before .before .before .match .keys2)
 
 returns-4 : tie.Need-returns-4
 returns-4 c =
     let a = c .before .before .before .before .before .before .args in
-    let f = wordsFrom (a .ws .now) (a .at) in
-    at-keys (Right (a .constants .now) (a .overrides .now) (a .l) f _) (2 ∷ [])
-    (no-override (a .constants .now) (a .overrides .now) (a .l) f (c .before .word2 .ensures) (c .if2 .left), tt)
+    at-keys (Right (a .constants .now) (a .overrides .now) (a .l) _ _) (2 ∷ [])
+    (no-override _ _ _ _ (c .before .word2 .ensures) (c .if2 .left), tt)
     _ (c .before .before .match .keys2)
 
 returns-5 : tie.Need-returns-5
 returns-5 c =
     let a = c .before .before .before .before .before .args in
-    let f = wordsFrom (a .ws .now) (a .at) in
-    at-keys (Right (a .constants .now) (a .overrides .now) (a .l) f _) (3 ∷ [])
-    (of-global (a .constants .now) (a .overrides .now) (a .l) f (c .typed-good3 .ensures), tt)
+    at-keys (Right (a .constants .now) (a .overrides .now) (a .l) _ _) (3 ∷ [])
+    (of-global _ _ _ _ (c .typed-good3 .ensures), tt)
     _ (c .before .match .keys3)
 
 returns-6 : tie.Need-returns-6

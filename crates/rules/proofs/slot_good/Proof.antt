@@ -1,18 +1,13 @@
 -- `rules::slot_good` meets its contract: each arm is given which code it is.
 -- Assumes nothing.
-use mathlib.Core.Path.{_≡_, refl, sym}
+use mathlib.Core.Path.{_≡_, refl, sym, subst}
 use mathlib.Core.Bool.{Bool}
-use mathlib.Core.List.{List, [], _∷_}
 use Prim.Native.Nat.{ℕ}
-use native.Mathlib.Decide.{decLe}
-use native.Mathlib.Omega.{arith}
-use lib.ListN.{List·getD-eq-default}
 use borrow.Author.Needs.{needs}
 use borrow.Author.Tests.{eq-eqb, ne-eqb}
 use Rattle.definitions.specs.Areas.{Words, N, numbered}
-use Rattle.definitions.specs.Slots.{unused}
 use Rattle.slots.specs.Codes.{codes, decoded}
-use Rattle.slots.proofs.Decision.{NoneOf, at-keys, in-range}
+use Rattle.slots.proofs.LastCode.{no-code}
 use Rattle.rules.specs.declared.Limits.{Limits}
 use Rattle.rules.specs.Rules.{fitBy, goodBy}
 use Rattle.rules.proofs.Arms.{and-first, and-second}
@@ -28,17 +23,9 @@ table = 0
 abbrev Right : Words → Words → Limits → ℕ → Bool → ℕ → Type 0
 Right c o l w r code = r ≡ goodBy c o l (decoded code) w
 
--- the codes of the arms, the last first
-abbrev keys : List (List ℕ)
-keys = (12 ∷ []) ∷ (11 ∷ []) ∷ (10 ∷ []) ∷ (9 ∷ []) ∷ (8 ∷ []) ∷ (7 ∷ []) ∷ (6 ∷ []) ∷ (5 ∷ []) ∷ (4 ∷ []) ∷ (3 ∷ []) ∷ (2 ∷ []) ∷ (1 ∷ []) ∷ []
-
--- any other is that of an unused slot
-none : (code : ℕ) → NoneOf keys code → unused ≡ decoded code
-unfolding table
-none code n = elim (decLe 13 code) [
-  | yes l ↦ sym (List·getD-eq-default codes unused l)
-  | no l ↦ in-range (λ code. unused ≡ decoded code) keys 0 13 (refl, (tt, (tt, (tt, (tt, (tt, (tt, (tt, (tt, (tt, (tt, (tt, (tt, tt))))))))))))) code n (omega arith) (omega arith)
-]
+-- the answer for the code of an arm
+of-code : (c o : Words) (l : Limits) (w k : ℕ) {r : Bool} {code : ℕ} → Right c o l w r k → code ≡ k → Right c o l w r code
+of-code c o l w k p e = subst (Right c o l w _) (sym e) p
 
 constant-fits-requires : tie.Need-constant-fits-requires
 constant-fits-requires c κs = search needs
@@ -54,93 +41,63 @@ add-result c = search needs
 
 returns : tie.Need-returns
 unfolding table
-returns c =
-    let a = c .before .before .before .args in
-    at-keys (Right (a .constants .now) (a .overrides .now) (a .l) (a .w) _) (1 ∷ []) (refl, tt) _ (c .match .keys1)
+returns c = of-code _ _ _ _ 1 refl (c .match .keys1)
 
 returns-2 : tie.Need-returns-2
 unfolding table
-returns-2 c =
-    let a = c .before .before .before .before .args in
-    at-keys (Right (a .constants .now) (a .overrides .now) (a .l) (a .w) _) (2 ∷ []) (refl, tt) _ (c .before .match .keys2)
+returns-2 c = of-code _ _ _ _ 2 refl (c .before .match .keys2)
 
 returns-3 : tie.Need-returns-3
 unfolding table
-returns-3 c =
-    let a = c .before .before .before .before .args in
-    at-keys (Right (a .constants .now) (a .overrides .now) (a .l) (a .w) _) (3 ∷ []) (c .constant-fits .ensures, tt) _ (c .before .match .keys3)
+returns-3 c = of-code _ _ _ _ 3 (c .constant-fits .ensures) (c .before .match .keys3)
 
 returns-4 : tie.Need-returns-4
 unfolding table
-returns-4 c =
-    let a = c .before .before .before .before .args in
-    at-keys (Right (a .constants .now) (a .overrides .now) (a .l) (a .w) _) (4 ∷ []) (c .override-fits .ensures, tt) _ (c .before .match .keys4)
+returns-4 c = of-code _ _ _ _ 4 (c .override-fits .ensures) (c .before .match .keys4)
 
 returns-5 : tie.Need-returns-5
 unfolding table
-returns-5 c =
-    let a = c .before .before .before .before .args in
-    at-keys (Right (a .constants .now) (a .overrides .now) (a .l) (a .w) _) (5 ∷ []) (refl, tt) _ (c .before .match .keys5)
+returns-5 c = of-code _ _ _ _ 5 refl (c .before .match .keys5)
 
 returns-6 : tie.Need-returns-6
 unfolding table
-returns-6 c =
-    let a = c .before .before .before .before .args in
-    at-keys (Right (a .constants .now) (a .overrides .now) (a .l) (a .w) _) (6 ∷ []) (rw (eq-eqb _ N (c .if1 .taken)), tt) _ (c .before .match .keys6)
+returns-6 c = of-code _ _ _ _ 6 (rw (eq-eqb _ N (c .if1 .taken))) (c .before .match .keys6)
 
 returns-7 : tie.Need-returns-7
 unfolding table
-returns-7 c =
-    let a = c .before .before .before .before .before .args in
-    at-keys (Right (a .constants .now) (a .overrides .now) (a .l) (a .w) _) (6 ∷ []) (rw (ne-eqb _ N (c .before .if1 .left)), tt) _ (c .before .before .match .keys6)
+returns-7 c = of-code _ _ _ _ 6 (rw (ne-eqb _ N (c .before .if1 .left))) (c .before .before .match .keys6)
 
 returns-8 : tie.Need-returns-8
 unfolding table
-returns-8 c =
-    let a = c .before .before .before .before .before .before .before .args in
-    at-keys (Right (a .constants .now) (a .overrides .now) (a .l) (a .w) _) (7 ∷ []) (and-second _ _ (eq-eqb _ _ (c .before .before .if2 .taken)), tt) _ (c .before .before .before .before .match .keys7)
+returns-8 c = of-code _ _ _ _ 7 (and-second _ _ (eq-eqb _ _ (c .before .before .if2 .taken))) (c .before .before .before .before .match .keys7)
 
 returns-9 : tie.Need-returns-9
 unfolding table
-returns-9 c =
-    let a = c .before .before .before .before .before .args in
-    at-keys (Right (a .constants .now) (a .overrides .now) (a .l) (a .w) _) (7 ∷ []) (and-first _ _ (ne-eqb _ _ (c .if2 .left)), tt) _ (c .before .before .match .keys7)
+returns-9 c = of-code _ _ _ _ 7 (and-first _ _ (ne-eqb _ _ (c .if2 .left))) (c .before .before .match .keys7)
 
 returns-10 : tie.Need-returns-10
 unfolding table
-returns-10 c =
-    let a = c .before .before .before .args in
-    at-keys (Right (a .constants .now) (a .overrides .now) (a .l) (a .w) _) (8 ∷ []) (refl, tt) _ (c .match .keys8)
+returns-10 c = of-code _ _ _ _ 8 refl (c .match .keys8)
 
 returns-11 : tie.Need-returns-11
 unfolding table
-returns-11 c =
-    let a = c .before .before .before .args in
-    at-keys (Right (a .constants .now) (a .overrides .now) (a .l) (a .w) _) (9 ∷ []) (refl, tt) _ (c .match .keys9)
+returns-11 c = of-code _ _ _ _ 9 refl (c .match .keys9)
 
 returns-12 : tie.Need-returns-12
 unfolding table
-returns-12 c =
-    let a = c .before .before .before .args in
-    at-keys (Right (a .constants .now) (a .overrides .now) (a .l) (a .w) _) (10 ∷ []) (refl, tt) _ (c .match .keys10)
+returns-12 c = of-code _ _ _ _ 10 refl (c .match .keys10)
 
 returns-13 : tie.Need-returns-13
 unfolding table
-returns-13 c =
-    let a = c .before .before .before .args in
-    at-keys (Right (a .constants .now) (a .overrides .now) (a .l) (a .w) _) (11 ∷ []) (refl, tt) _ (c .match .keys11)
+returns-13 c = of-code _ _ _ _ 11 refl (c .match .keys11)
 
 returns-14 : tie.Need-returns-14
 unfolding table
-returns-14 c =
-    let a = c .before .before .before .args in
-    at-keys (Right (a .constants .now) (a .overrides .now) (a .l) (a .w) _) (12 ∷ []) (refl, tt) _ (c .match .keys12)
+returns-14 c = of-code _ _ _ _ 12 refl (c .match .keys12)
 
 returns-15 : tie.Need-returns-15
 unfolding table
-returns-15 c =
-    let a = c .before .before .before .args in
-    rw (← none _ (c .match .rest))
+returns-15 c = rw (← no-code _ (c .match .rest))
 
 pub slot-good-spec : {M : Type 1} → statement M
 slot-good-spec =

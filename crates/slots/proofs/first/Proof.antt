@@ -1,17 +1,14 @@
 -- `slots::first` meets its contract.
 -- Assumes nothing.
-use mathlib.Core.Path.{_≡_, refl, sym}
-use mathlib.Core.List.{List, [], _∷_}
+use mathlib.Core.Path.{_≡_, refl}
+use mathlib.Core.List.{[], _∷_}
 use Prim.Native.Nat.{ℕ}
-use native.Mathlib.Decide.{decLe}
-use native.Mathlib.Omega.{arith}
-use lib.ListN.{List·getD-eq-default}
-use Rattle.definitions.specs.Slots.{unused}
 use Rattle.slots.specs.Codes.{slotOf, codes, decoded}
 use Rattle.slots.specs.declared.Arena.the-variants.{Types, Constants, Overrides, Expressions}
 use Rattle.slots.specs.declared.Slot.{Slot}
-use Rattle.slots.specs.declared.Slot.the-variants.{Unused, Free, Below, Must, May, Start, Count}
-use Rattle.slots.proofs.Decision.{NoneOf, at-keys, in-range}
+use Rattle.slots.specs.declared.Slot.the-variants.{Free, Below, Must, May, Start, Count}
+use Rattle.slots.proofs.Decision.{at-keys}
+use Rattle.slots.proofs.LastCode.{no-code}
 use Rattle.slots.proofs.first.Statement.{statement}
 use Rattle.slots.proofs.first.Tie as tie
 
@@ -23,17 +20,6 @@ table = 0
 -- the slot v is that of the code
 abbrev Right : Slot → ℕ → Type 0
 Right v code = slotOf v ≡ decoded code
-
--- the codes of the arms, the last first
-abbrev keys : List (List ℕ)
-keys = (12 ∷ []) ∷ (11 ∷ []) ∷ (10 ∷ []) ∷ (9 ∷ []) ∷ (8 ∷ []) ∷ (7 ∷ []) ∷ (6 ∷ []) ∷ (5 ∷ []) ∷ (4 ∷ []) ∷ (3 ∷ []) ∷ (2 ∷ []) ∷ (1 ∷ []) ∷ []
-
-others : (code : ℕ) → NoneOf keys code → Right Unused code
-unfolding table
-others code n = elim (decLe 13 code) [
-  | yes l ↦ sym (List·getD-eq-default codes unused l)
-  | no l ↦ in-range (Right Unused) keys 0 13 (refl, (tt, (tt, (tt, (tt, (tt, (tt, (tt, (tt, (tt, (tt, (tt, (tt, tt))))))))))))) code n (omega arith) (omega arith)
-]
 
 returns : tie.Need-returns
 unfolding table
@@ -84,8 +70,7 @@ unfolding table
 returns-12 c = at-keys (Right (Below 34)) (12 ∷ []) (refl, tt) _ (c .match .keys12)
 
 returns-13 : tie.Need-returns-13
-unfolding table
-returns-13 c = others _ (c .match .rest)
+returns-13 c = no-code _ (c .match .rest)
 
 pub first-spec : {M : Type 1} → statement M
 first-spec =
