@@ -6,9 +6,9 @@ use mathlib.Core.List.{List, [], _∷_, _++_, map}
 use Prim.Native.Nat.{ℕ, suc, _+_, _-_, _*_, _/_, _<_, min}
 use lib.ListN.{length, getD, take, drop, replicate}
 use lib.Dec.{eqb}
-use Rattle.definitions.specs.Lists.{total, gather, always}
 use denote.Ref.{RefT}
 use denote.Triple.Both.{Both}
+use Rattle.definitions.specs.Lists.{total, gather, always}
 use Rattle.definitions.specs.Areas.{Words, N, Arena, Elem, at, numbered, width, wordOf, mentionWidth}
 use Rattle.definitions.specs.Slots.{Slot, unused, free, below, must, may, start, count, slots}
 use Rattle.definitions.specs.Records.{padded}

@@ -9,7 +9,8 @@ ghost use Rattle.definitions.specs.Slots.{body, slots};
 ghost use Rattle.definitions.specs.Outcome.{mapOf};
 ghost use Rattle.definitions.specs.MapEntries.{lookup};
 ghost use Rattle.slots.specs.Codes.{arenaOf, slotOf, unpacked, wordsFrom};
-ghost use Rattle.adjust.specs.Rewrite.{mapsOf, mapsIn, keptBy, Empty, freedFrom, adjustedBy, recordFrom, initBy, typedBy, arenaBy, poolBy, runsBy, mentionsBy};
+ghost use Rattle.adjust.specs.Rewrite.{mapsOf, mapsIn, keptBy, adjustedBy, initBy, typedBy, recordFrom};
+ghost use Rattle.adjust.specs.Rewrite.{Empty, freedFrom, arenaBy, poolBy, runsBy, mentionsBy};
 
 mod handles;
 
