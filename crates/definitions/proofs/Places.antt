@@ -34,14 +34,6 @@ module _ (m : List Elem) (a : Arena) where
       go true u = refl
       go false u = absurd u
 
-  pub new-dropped : (h : ℕ) → (at a h ∈ m → ⊥) → newHandle (isKept m a) h ≡ N
-  unfolding newHandle
-  new-dropped h t = go (has m (at a h)) t
-    where
-      go : (b : Bool) → (T b → ⊥) → cond b (rank (isKept m a) h) N ≡ N
-      go true u = absurd (u tt)
-      go false u = refl
-
   pub rank-mono : (h k : ℕ) → h ≤ k → rank (isKept m a) h ≤ rank (isKept m a) k
   unfolding rank
   rank-mono h k l = total-mono (isKept m a) (λ _. 1) k h l
