@@ -16,16 +16,6 @@ use Rattle.slots.proofs.Laws.{span-in, run-in}
 use Rattle.slots.proofs.Places.{place-words}
 use Rattle.faults.specs.Checking.{Measured}
 
--- an area past 3 is read as the expressions
-pub past-three : (a : ℕ) → 4 ≤ a → numbered a ≡ expressions
-unfolding numbered
-past-three zero l = absurd (omega arith)
-past-three (suc zero) l = absurd (omega arith)
-past-three (suc (suc zero)) l = absurd (omega arith)
-past-three (suc (suc (suc zero))) l = absurd (omega arith)
-past-three (suc (suc (suc (suc zero)))) l = refl
-past-three (suc (suc (suc (suc (suc a))))) l = refl
-
 -- constants, overrides and globals have no pool
 pub no-pool : (s : Areas) (a : ℕ) → (a ≡ 0 → ⊥) → a < 4 → pool s (numbered a) ≡ []
 unfolding numbered pool

@@ -2,7 +2,8 @@
 -- Assumes nothing.
 use mathlib.Core.Path.{_≡_, refl}
 use mathlib.Core.List.{List, [], _∷_}
-use Prim.Native.Nat.{ℕ, zero, suc}
+use Prim.Native.Nat.{ℕ, zero, suc, _≤_}
+use native.Mathlib.Omega.{arith}
 use Rattle.definitions.specs.Areas.{numbered, expressions}
 use Rattle.slots.proofs.Decision.{NoneOf}
 
@@ -10,11 +11,15 @@ use Rattle.slots.proofs.Decision.{NoneOf}
 abbrev pub firstFour : List (List ℕ)
 firstFour = (3 ∷ []) ∷ (2 ∷ []) ∷ (1 ∷ []) ∷ (0 ∷ []) ∷ []
 
-pub past-three : (area : ℕ) → NoneOf firstFour area → numbered area ≡ expressions
+-- an area past 3 is read as the expressions
+pub from-four : (area : ℕ) → 4 ≤ area → numbered area ≡ expressions
 unfolding numbered
-past-three zero n = absurd (n .0 .0 .0 .1 refl)
-past-three (suc zero) n = absurd (n .0 .0 .1 refl)
-past-three (suc (suc zero)) n = absurd (n .0 .1 refl)
-past-three (suc (suc (suc zero))) n = absurd (n .1 refl)
-past-three (suc (suc (suc (suc zero)))) n = refl
-past-three (suc (suc (suc (suc (suc a))))) n = refl
+from-four zero l = absurd (omega arith)
+from-four (suc zero) l = absurd (omega arith)
+from-four (suc (suc zero)) l = absurd (omega arith)
+from-four (suc (suc (suc zero))) l = absurd (omega arith)
+from-four (suc (suc (suc (suc zero)))) l = refl
+from-four (suc (suc (suc (suc (suc a))))) l = refl
+
+pub past-three : (area : ℕ) → NoneOf firstFour area → numbered area ≡ expressions
+past-three area n = from-four area (omega (arith, n .0 .0 .0 .1, n .0 .0 .1, n .0 .1, n .1))

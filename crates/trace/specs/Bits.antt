@@ -66,4 +66,6 @@ thoseIn s a n = map (at a) (select (rootIn s a) (countUp 0 n))
 unfoldable pub rootsIn : Areas → Bool → Sizes → List Elem
 rootsIn s keep n =
     (map (mention s) (countUp 0 (n .mentions)) ++ thoseIn s Arena.constants (n .constants))
-    ++ cond keep (thoseIn s Arena.globals (n .globals) ++ thoseIn s Arena.overrides (n .overrides) ++ thoseIn s Arena.types (n .types)) []
+    ++ cond keep
+    (thoseIn s Arena.globals (n .globals) ++ thoseIn s Arena.overrides (n .overrides)
+    ++ thoseIn s Arena.types (n .types)) []

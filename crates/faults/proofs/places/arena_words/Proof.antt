@@ -6,7 +6,7 @@ use Prim.Native.Nat.{ℕ}
 use native.Mathlib.Omega.{arith}
 use Rattle.definitions.specs.Areas.{Words, Areas, areasOf, numbered, words}
 use Rattle.slots.proofs.Decision.{at-keys}
-use Rattle.faults.proofs.Arenas.{past-three}
+use Rattle.slots.proofs.Numbered.{from-four}
 use Rattle.faults.proofs.places.arena_words.Statement.{statement}
 use Rattle.faults.proofs.places.arena_words.Tie as tie
 
@@ -38,7 +38,7 @@ returns-5 : tie.Need-returns-5
 unfolding words
 returns-5 c =
     let d = c .before in
-    ap (words (Given d)) (sym (past-three (d .args .area) (omega (arith, c .match .rest .0 .0 .0 .1, c .match .rest .0 .0 .1, c .match .rest .0 .1, c .match .rest .1))))
+    ap (words (Given d)) (sym (from-four (d .args .area) (omega (arith, c .match .rest .0 .0 .0 .1, c .match .rest .0 .0 .1, c .match .rest .0 .1, c .match .rest .1))))
 
 pub arena-words-spec : {M : Type 1} → statement M
 arena-words-spec = tie.close (tie.spec returns returns-2 returns-3 returns-4 returns-5)

@@ -5,7 +5,8 @@ use mathlib.Core.List.{[], _∷_}
 use Rattle.definitions.specs.Areas.{Areas, areasOf, numbered, pool}
 use Rattle.slots.proofs.Decision.{at-keys}
 use borrow.Author.Needs.{needs}
-use Rattle.faults.proofs.Arenas.{past-three, no-pool}
+use Rattle.slots.proofs.Numbered.{from-four}
+use Rattle.faults.proofs.Arenas.{no-pool}
 use Rattle.faults.proofs.places.pool_words.Statement.{statement}
 use Rattle.faults.proofs.places.pool_words.Tie as tie
 
@@ -31,7 +32,7 @@ returns-2 c = let d = c .before .before .before in sym (no-pool (Given d) (d .ar
 
 returns-3 : tie.Need-returns-3
 unfolding pool
-returns-3 c = let d = c .before .before in ap (pool (Given d)) (sym (past-three (d .args .area) (c .if1 .left)))
+returns-3 c = let d = c .before .before in ap (pool (Given d)) (sym (from-four (d .args .area) (c .if1 .left)))
 
 pub pool-words-spec : {M : Type 1} → statement M
 pool-words-spec =
