@@ -9,7 +9,7 @@ use lib.Dec.{eqb, ltb}
 use Rattle.definitions.specs.Areas.{N, Arena, types, constants, overrides, globals, expressions, Elem, at}
 use Rattle.arena.specs.declared.handle_set.Bases.{Bases}
 
--- where each arena's bits begin, the sum of the record counts before it, and where the last arena's end
+-- where each arena's bits begin, the sum of the record counts before it, and where the last arena's end;
 -- no sum passes N
 abbrev pub basesOf : ℕ → ℕ → ℕ → ℕ → ℕ → Bases
 basesOf t c o g e =

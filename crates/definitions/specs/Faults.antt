@@ -53,8 +53,8 @@ pub data Misplaced (s : Areas) : Elem → Elem → Type 0 where
   expressionNotOlder : {e i : ℕ} → e ≤ i → Misplaced s (at expressions e) (at expressions i)
   -- "each type T that an expression names, or that stands behind its constant or override, has dep(T) below that
   -- expression": type v, which is T or before it, is sized by an override whose init isn't below expression e
-  depNotBelow : {e t v i : ℕ} → v ≤ t → word s types v 0 ≡ 2 → word s overrides (word s types v 3) 2 ≡ i → i ≢ N → e ≤ i
-      → Misplaced s (at expressions e) (at types t)
+  depNotBelow : {e t v i : ℕ} → v ≤ t → word s types v 0 ≡ 2
+      → word s overrides (word s types v 3) 2 ≡ i → i ≢ N → e ≤ i → Misplaced s (at expressions e) (at types t)
 
 -- number, area, record: a fault of the module; maps are the lengths of the five map areas
 pub data Fault (s : Areas) (maps : List ℕ) : ℕ → ℕ → ℕ → Type 0 where
