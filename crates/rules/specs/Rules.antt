@@ -60,14 +60,14 @@ asked c o g (Held z) l w = heldBy (sizeIn z) l w
 asked c o g (Ordered b) l w = all (within b) (withBehind (part c o g) (namedBy l w))
 
 -- numbers 4 to 7 at once: a type and an init within the limits; unless it has to be there the init may be N
-abbrev pub typedBy : Limits → Bool → ℕ → ℕ → Bool
-typedBy l present t e = ltb t (l .types) && (cond present false (eqb e N) || ltb e (l .expressions))
+abbrev pub typedFits : Limits → Bool → ℕ → ℕ → Bool
+typedFits l present t e = ltb t (l .types) && (cond present false (eqb e N) || ltb e (l .expressions))
 
 -- does an element, with all that stands behind it, lie within the limits ? No slot names a global
 unfoldable pub fitBy : Words → Words → Limits → Arena → ℕ → Bool
 fitBy c o l types h = ltb h (l .types)
-fitBy c o l constants h = ltb h (l .constants) && typedBy l true (wordOf c constants h 1) (wordOf c constants h 2)
-fitBy c o l overrides h = ltb h (l .overrides) && typedBy l false (wordOf o overrides h 1) (wordOf o overrides h 2)
+fitBy c o l constants h = ltb h (l .constants) && typedFits l true (wordOf c constants h 1) (wordOf c constants h 2)
+fitBy c o l overrides h = ltb h (l .overrides) && typedFits l false (wordOf o overrides h 1) (wordOf o overrides h 2)
 fitBy c o l globals h = false
 fitBy c o l expressions h = ltb h (l .expressions)
 

@@ -13,7 +13,7 @@ ghost use Rattle.definitions.specs.Refusals.{every};
 ghost use Rattle.arena.specs.Elements.{elementOf};
 ghost use Rattle.slots.specs.Codes.{decoded, unpacked, wordsFrom, arenaOf, slotOf, spanIn};
 ghost use Rattle.slots.specs.Part.{part};
-ghost use Rattle.rules.specs.Rules.{sizeIn, shapedBy, heldBy, within, asked, empty, fitBy, typedBy, goodBy, leading};
+ghost use Rattle.rules.specs.Rules.{sizeIn, shapedBy, heldBy, within, asked, empty, fitBy, typedFits, goodBy, leading};
 use arena::CONSTANTS;
 use arena::Constant;
 use arena::ConstantHandle;
@@ -356,7 +356,7 @@ fn slots_good(
 
 // Are a type and an init good, at their places in the record ? Unless it must be there the init may be N.
 fn typed_good(l: Limits, ws: &[u32], at: usize, ty: usize, init: usize, must: bool) -> bool
-    ensures { λ r. ⌜ r ≡ typedBy l must (wordsFrom (now (ws .entry)) at ty) (wordsFrom (now (ws .entry)) at init) ⌝ }
+    ensures { λ r. ⌜ r ≡ typedFits l must (wordsFrom (now (ws .entry)) at ty) (wordsFrom (now (ws .entry)) at init) ⌝ }
 {
     if l.types <= slots::word(ws, at, ty) {
         return false;

@@ -16,7 +16,7 @@ use Rattle.slots.specs.Codes.{wordsFrom}
 use Rattle.slots.proofs.Decision.{at-keys}
 use Rattle.slots.proofs.Laws.{body-shape}
 use Rattle.rules.specs.declared.Limits.{Limits}
-use Rattle.rules.specs.Rules.{fitBy, typedBy, goodBy}
+use Rattle.rules.specs.Rules.{fitBy, typedFits, goodBy}
 use Rattle.rules.proofs.record_good.Statement.{statement}
 use Rattle.rules.proofs.record_good.Tie as tie
 
@@ -41,7 +41,7 @@ module _ (c o : Words) (l : Limits) (f : ℕ → ℕ) {w : ℕ} (word : w ≡ f 
   unfolding opened
   no-constant = not-flag _
 
-  of-constant : {r : Bool} → w < 2 → r ≡ typedBy l true (f 1) (f 2) → Right c o l f r 1
+  of-constant : {r : Bool} → w < 2 → r ≡ typedFits l true (f 1) (f 2) → Right c o l f r 1
   unfolding opened
   of-constant h e = flag h (e ∙ ap (λ x. ltb (f 1) (l .types) && x) (sym (and-true (ltb (f 2) (l .expressions)))))
 
@@ -49,11 +49,11 @@ module _ (c o : Words) (l : Limits) (f : ℕ → ℕ) {w : ℕ} (word : w ≡ f 
   unfolding opened
   no-override = not-flag _
 
-  of-override : {r : Bool} → w < 2 → r ≡ typedBy l false (f 1) (f 2) → Right c o l f r 2
+  of-override : {r : Bool} → w < 2 → r ≡ typedFits l false (f 1) (f 2) → Right c o l f r 2
   unfolding opened
   of-override h e = flag h (e ∙ ap (λ x. ltb (f 1) (l .types) && x) (sym (and-true (eqb (f 2) N || ltb (f 2) (l .expressions)))))
 
-of-global : (c o : Words) (l : Limits) (f : ℕ → ℕ) {r : Bool} → r ≡ typedBy l false (f 0) (f 1) → Right c o l f r 3
+of-global : (c o : Words) (l : Limits) (f : ℕ → ℕ) {r : Bool} → r ≡ typedFits l false (f 0) (f 1) → Right c o l f r 3
 unfolding opened
 of-global c o l f e = e ∙ ap (λ x. ltb (f 0) (l .types) && x) (sym (and-true (eqb (f 1) N || ltb (f 1) (l .expressions))))
 
