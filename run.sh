@@ -3,11 +3,12 @@
 set -euo pipefail
 root=$(cd "$(dirname "$0")" && pwd)
 bash "$root/build.sh"
+. "$root/machine.sh"
 if [ $# -eq 0 ]; then
     cd "$root"
     set -- examples/*.txt
 fi
 for module in "$@"; do
     echo "== $module"
-    "$root/host/target/release/cadnohal" compact "$module"
+    $start "$root/host/$release/cadnohal" compact "$module"
 done

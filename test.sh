@@ -1,8 +1,9 @@
 #!/usr/bin/env bash
 # All tests. `rt ci` starts from nothing and comes first, so that what it proved serves the rest. Its last line is said
-# again at the end, where all else has passed.
+# again at the end, where all else has passed. What the machine lacks is installed before, since that may fail.
 set -euo pipefail
 cd "$(dirname "$0")"
+. ./machine.sh
 said=$(mktemp)
 trap 'rm -f "$said"' EXIT
 rt fmt --check

@@ -3,6 +3,7 @@
 
 use cadnohal::{kinds, kinds::Holds, Area, Module, N};
 use std::{
+    ffi::OsString,
     io::Write,
     path::PathBuf,
     process::{Command, Stdio},
@@ -16,9 +17,22 @@ pub struct Done {
     pub err: String,
 }
 
+/// What starts the program where the machine can't by itself: `machine.sh` names an emulator on Arm.
+pub fn emulator() -> Option<OsString> {
+    std::env::var_os("CADNOHAL_EMULATOR")
+}
+
 /// The program, ready to be given arguments.
 pub fn program() -> Command {
-    Command::new(env!("CARGO_BIN_EXE_cadnohal"))
+    let program = env!("CARGO_BIN_EXE_cadnohal");
+    match emulator() {
+        None => Command::new(program),
+        Some(emulator) => {
+            let mut command = Command::new(emulator);
+            command.arg(program);
+            command
+        }
+    }
 }
 
 /// Runs the program with these arguments and this standard input.
