@@ -6,8 +6,6 @@ use mathlib.Core.List.{List, [], _∷_, _++_, map}
 use Prim.Native.Nat.{ℕ, suc, _+_, _-_, _*_, _/_, _<_, min}
 use lib.ListN.{length, getD, take, drop, replicate}
 use lib.Dec.{eqb}
-use denote.Ref.{RefT}
-use denote.Triple.Both.{Both}
 use Rattle.definitions.specs.Lists.{total, gather, always}
 use Rattle.definitions.specs.Areas.{Words, N, Arena, Elem, at, numbered, width, wordOf, mentionWidth}
 use Rattle.definitions.specs.Slots.{Slot, unused, free, below, must, may, start, count, slots}
@@ -15,17 +13,6 @@ use Rattle.definitions.specs.Records.{padded}
 use Rattle.definitions.specs.Outcome.{Maps, mapOf}
 use Rattle.definitions.specs.MapEntries.{lookup}
 use Rattle.slots.specs.Codes.{spanIn}
-
--- the five maps, in order
-abbrev pub mapsOf : Words → Words → Words → Words → Words → Maps
-mapsOf t c o g e = record { types = t; constants = c; overrides = o; globals = g; expressions = e }
-
--- a slice that an `ensures` speaks of, and the five maps as they were lent
-abbrev Lent : Type 0
-Lent = Both (RefT Words) (RefT Words)
-
-abbrev pub mapsIn : Lent → Lent → Lent → Lent → Lent → Maps
-mapsIn t c o g e = mapsOf (t .entry .now) (c .entry .now) (o .entry .now) (g .entry .now) (e .entry .now)
 
 -- an element by the map of its arena
 unfoldable pub elementBy : Maps → Elem → Elem

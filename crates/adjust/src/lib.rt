@@ -8,8 +8,9 @@ ghost use Rattle.definitions.specs.Areas.{N, numbered, width};
 ghost use Rattle.definitions.specs.Slots.{body, slots};
 ghost use Rattle.definitions.specs.Outcome.{mapOf};
 ghost use Rattle.definitions.specs.MapEntries.{lookup};
+ghost use Rattle.arena.specs.Lent.{given, left, maps};
 ghost use Rattle.slots.specs.Codes.{arenaOf, slotOf, unpacked, wordsFrom};
-ghost use Rattle.adjust.specs.Rewrite.{mapsOf, mapsIn, keptBy, adjustedBy, initBy, typedBy, recordFrom};
+ghost use Rattle.adjust.specs.Rewrite.{keptBy, adjustedBy, initBy, typedBy, recordFrom};
 ghost use Rattle.adjust.specs.Rewrite.{Empty, freedFrom, arenaBy, poolBy, runsBy, mentionsBy};
 
 mod handles;
@@ -42,7 +43,7 @@ fn map_of<'a>(
     expression_map: &'a [u32],
 ) -> &'a [u32]
     ensures { λ r. ⌜ now r ≡
-        mapOf (mapsIn «type_map» «constant_map» «override_map» «global_map» «expression_map») (arenaOf arena) ⌝ }
+        mapOf (maps given «type_map» «constant_map» «override_map» «global_map» «expression_map») (arenaOf arena) ⌝ }
 {
     match arena {
         Arena::Types => type_map,
@@ -65,7 +66,7 @@ fn adjust_slot<'a>(
     expression_map: &'a [u32],
 ) -> u32
     ensures { λ r. ⌜ r ≡
-        adjustedBy (mapsIn «type_map» «constant_map» «override_map» «global_map» «expression_map»)
+        adjustedBy (maps given «type_map» «constant_map» «override_map» «global_map» «expression_map»)
         start (slotOf slot) w ⌝ }
 {
     match slot {
@@ -112,10 +113,10 @@ fn adjust_record<'a>(
     expression_map: &'a [u32],
 )
     requires { ⌜ (to ≤ from) × (from + n ≤ length (now ws)) ⌝ }
-    ensures { λ _. ⌜ now (ws .exit) ≡
-        sets (now (ws .entry)) to
-        (recordFrom (mapsIn «type_map» «constant_map» «override_map» «global_map» «expression_map») start
-        (wordsFrom (now (ws .entry)) from) 0 (unpacked shape n)) ⌝ }
+    ensures { λ _. ⌜ left ws ≡
+        sets (given ws) to
+        (recordFrom (maps given «type_map» «constant_map» «override_map» «global_map» «expression_map») start
+        (wordsFrom (given ws) from) 0 (unpacked shape n)) ⌝ }
 {
     let mut rest = shape;
     let mut k = 0;
@@ -137,7 +138,7 @@ fn adjust_record<'a>(
 
 // An init adjusted. Unless it must be there it may be N.
 fn adjust_init(must: bool, init: ExpressionHandle, expression_map: &[u32]) -> ExpressionHandle
-    ensures { λ r. ⌜ r .0 ≡ initBy must (now («expression_map» .entry)) (init .0) ⌝ }
+    ensures { λ r. ⌜ r .0 ≡ initBy must (given «expression_map») (init .0) ⌝ }
 {
     if init.0 == N {
         if !must {
@@ -157,10 +158,10 @@ fn adjust_typed(
     expression_map: &[u32],
 )
     requires { ⌜ (to ≤ from) × (from + 1 < length (now ws)) ⌝ }
-    ensures { λ _. ⌜ now (ws .exit) ≡
-        sets (now (ws .entry)) to
-        (typedBy must (now («type_map» .entry)) (now («expression_map» .entry))
-        (wordsFrom (now (ws .entry)) from) 0) ⌝ }
+    ensures { λ _. ⌜ left ws ≡
+        sets (given ws) to
+        (typedBy must (given «type_map») (given «expression_map»)
+        (wordsFrom (given ws) from) 0) ⌝ }
 {
     let ty = TypeHandle(ws[from + Global::TYPE]);
     let init = ExpressionHandle(ws[from + Global::INIT]);
@@ -178,11 +179,11 @@ fn adjust_named(
     expression_map: &[u32],
 )
     requires { ⌜ (to ≤ from) × (from + 2 < length (now ws)) ⌝ }
-    ensures { λ _. ⌜ now (ws .exit) ≡
-        sets (now (ws .entry)) to
-        (wordsFrom (now (ws .entry)) from 0
-        ∷ typedBy must (now («type_map» .entry)) (now («expression_map» .entry))
-        (wordsFrom (now (ws .entry)) from) 1) ⌝ }
+    ensures { λ _. ⌜ left ws ≡
+        sets (given ws) to
+        (wordsFrom (given ws) from 0
+        ∷ typedBy must (given «type_map») (given «expression_map»)
+        (wordsFrom (given ws) from) 1) ⌝ }
 {
     let flag = ws[from + Constant::NAMED];
     ws[to + Constant::NAMED] = flag;
@@ -212,10 +213,10 @@ fn adjust_body<'a>(
     expression_map: &'a [u32],
 )
     requires { ⌜ (to ≤ from) × (from + n ≤ length (now ws)) × (n + 1 ≡ width (numbered area)) ⌝ }
-    ensures { λ _. ⌜ now (ws .exit) ≡
-        sets (now (ws .entry)) to
-        (recordFrom (mapsIn «type_map» «constant_map» «override_map» «global_map» «expression_map») start
-        (wordsFrom (now (ws .entry)) from) 0 (body (numbered area) (wordsFrom (now (ws .entry)) from))) ⌝ }
+    ensures { λ _. ⌜ left ws ≡
+        sets (given ws) to
+        (recordFrom (maps given «type_map» «constant_map» «override_map» «global_map» «expression_map») start
+        (wordsFrom (given ws) from) 0 (body (numbered area) (wordsFrom (given ws) from))) ⌝ }
 {
     match area {
         CONSTANTS => adjust_named(ws, from, to, true, type_map, expression_map),
@@ -243,7 +244,7 @@ fn adjust_body<'a>(
 // A record's tail, which stays: that at `from` is written at `to`.
 fn carry_tail(ws: &mut [u32], from: usize, to: usize)
     requires { ⌜ (to ≤ from) × (from < length (now ws)) ⌝ }
-    ensures { λ _. ⌜ now (ws .exit) ≡ set (now (ws .entry)) to (getD (now (ws .entry)) from 0) ⌝ }
+    ensures { λ _. ⌜ left ws ≡ set (given ws) to (getD (given ws) from 0) ⌝ }
 {
     let tag = ws[from];
     ws[to] = tag;
@@ -264,10 +265,10 @@ fn adjust_kept<'a>(
     expression_map: &'a [u32],
 )
     requires { ⌜ (to ≤ from) × (from + wide ≤ length (now ws)) × (wide ≡ width (numbered area)) ⌝ }
-    ensures { λ _. ⌜ now (ws .exit) ≡
-        sets (now (ws .entry)) to
-        (recordFrom (mapsIn «type_map» «constant_map» «override_map» «global_map» «expression_map») start
-        (wordsFrom (now (ws .entry)) from) 0 (slots (numbered area) (wordsFrom (now (ws .entry)) from))) ⌝ }
+    ensures { λ _. ⌜ left ws ≡
+        sets (given ws) to
+        (recordFrom (maps given «type_map» «constant_map» «override_map» «global_map» «expression_map») start
+        (wordsFrom (given ws) from) 0 (slots (numbered area) (wordsFrom (given ws) from))) ⌝ }
 {
     let n = wide - TAIL;
     adjust_body(
@@ -288,7 +289,7 @@ fn adjust_kept<'a>(
 
 // N in every word.
 fn pad(ws: &mut [u32])
-    ensures { λ _. ⌜ now (ws .exit) ≡ replicate (length (now (ws .entry))) N ⌝ }
+    ensures { λ _. ⌜ left ws ≡ replicate (length (given ws)) N ⌝ }
 {
     let mut i = 0;
     while i < ws.len() {
@@ -300,7 +301,7 @@ fn pad(ws: &mut [u32])
 // Words written at a place.
 fn write(ws: &mut [u32], at: usize, new: &[u32])
     requires { ⌜ at + length (now new) ≤ length (now ws) ⌝ }
-    ensures { λ _. ⌜ now (ws .exit) ≡ sets (now (ws .entry)) at (now (new .entry)) ⌝ }
+    ensures { λ _. ⌜ left ws ≡ sets (given ws) at (given new) ⌝ }
 {
     let mut k = 0;
     while k < new.len() {
@@ -312,7 +313,7 @@ fn write(ws: &mut [u32], at: usize, new: &[u32])
 // An empty record again and again from a place on, as long as it fits, then N to the end.
 fn free(ws: &mut [u32], from: usize, empty: &[u32])
     requires { ⌜ (from ≤ length (now ws)) × Empty (now empty) ⌝ }
-    ensures { λ _. ⌜ now (ws .exit) ≡ freedFrom from (now (ws .entry)) ⌝ }
+    ensures { λ _. ⌜ left ws ≡ freedFrom from (given ws) ⌝ }
 {
     let mut at = from;
     while empty.len() <= ws.len() - at {
@@ -325,7 +326,7 @@ fn free(ws: &mut [u32], from: usize, empty: &[u32])
 // The records of an area from a place on are freed: each is the area's empty record.
 fn free_records(area: u32, ws: &mut [u32], from: usize)
     requires { ⌜ from ≤ length (now ws) ⌝ }
-    ensures { λ _. ⌜ now (ws .exit) ≡ freedFrom from (now (ws .entry)) ⌝ }
+    ensures { λ _. ⌜ left ws ≡ freedFrom from (given ws) ⌝ }
 {
     match area {
         TYPES => free(ws, from, &Type::empty()),
@@ -338,7 +339,7 @@ fn free_records(area: u32, ws: &mut [u32], from: usize)
 
 // Whether the map keeps record h: past the map's end nothing is kept.
 fn kept_at(own: &[u32], h: usize) -> bool
-    ensures { λ r. ⌜ r ≡ keptBy (now (own .entry)) h ⌝ }
+    ensures { λ r. ⌜ r ≡ keptBy (given own) h ⌝ }
 {
     if h < own.len() {
         return own[h] != N;
@@ -357,10 +358,9 @@ pub fn adjust_arena<'a>(
     global_map: &'a [u32],
     expression_map: &'a [u32],
 )
-    ensures { λ _. ⌜ now (ws .exit) ≡
-        arenaBy (mapsOf (now («type_map» .entry)) (now («constant_map» .entry)) (now («override_map» .entry))
-        (now («global_map» .entry)) (now («expression_map» .entry)))
-        (numbered area) (now (ws .entry)) ⌝ }
+    ensures { λ _. ⌜ left ws ≡
+        arenaBy (maps given «type_map» «constant_map» «override_map» «global_map» «expression_map»)
+        (numbered area) (given ws) ⌝ }
 {
     let width = slots::arena_width(area);
     let own = map_of(
@@ -403,7 +403,7 @@ pub fn adjust_arena<'a>(
 
 // A word of a run adjusted: a type's members are types, an expression's components expressions.
 fn run_word(area: u32, w: u32, own: &[u32]) -> u32
-    ensures { λ r. ⌜ r ≡ lookup (now (own .entry)) w ⌝ }
+    ensures { λ r. ⌜ r ≡ lookup (given own) w ⌝ }
 {
     match area {
         TYPES => handles::type_after(own, TypeHandle(w)).0,
@@ -414,8 +414,8 @@ fn run_word(area: u32, w: u32, own: &[u32]) -> u32
 // The n words of the area's pool at `from` are written, adjusted, at `to`, which is no later.
 fn adjust_run(area: u32, pool: &mut [u32], from: usize, to: usize, n: usize, own: &[u32])
     requires { ⌜ (to ≤ from) × (from + n ≤ length (now pool)) ⌝ }
-    ensures { λ _. ⌜ now (pool .exit) ≡
-        sets (now (pool .entry)) to (map (lookup (now (own .entry))) (take n (drop from (now (pool .entry))))) ⌝ }
+    ensures { λ _. ⌜ left pool ≡
+        sets (given pool) to (map (lookup (given own)) (take n (drop from (given pool)))) ⌝ }
 {
     let mut k = 0;
     while k < n {
@@ -428,8 +428,8 @@ fn adjust_run(area: u32, pool: &mut [u32], from: usize, to: usize, n: usize, own
 // Answers how many words were kept. The arena's records still stand as they were.
 pub fn adjust_pool(area: u32, ws: &[u32], pool: &mut [u32], own: &[u32]) -> usize
     ensures { λ r. ⌜
-        (now (pool .exit) ≡ poolBy (now (own .entry)) (numbered area) (now (ws .entry)) (now (pool .entry)))
-        × (r ≡ length (runsBy (now (own .entry)) (numbered area) (now (ws .entry)) (now (pool .entry)))) ⌝ }
+        (left pool ≡ poolBy (given own) (numbered area) (given ws) (given pool))
+        × (r ≡ length (runsBy (given own) (numbered area) (given ws) (given pool))) ⌝ }
 {
     let width = slots::arena_width(area);
     let n = ws.len() / width;
@@ -463,10 +463,9 @@ pub fn adjust_mentions<'a>(
     global_map: &'a [u32],
     expression_map: &'a [u32],
 )
-    ensures { λ _. ⌜ now (mentions .exit) ≡
-        mentionsBy (mapsOf (now («type_map» .entry)) (now («constant_map» .entry)) (now («override_map» .entry))
-        (now («global_map» .entry)) (now («expression_map» .entry)))
-        (now (mentions .entry)) ⌝ }
+    ensures { λ _. ⌜ left mentions ≡
+        mentionsBy (maps given «type_map» «constant_map» «override_map» «global_map» «expression_map»)
+        (given mentions) ⌝ }
 {
     let mut at = 0;
     while Mention::WIDTH <= mentions.len() - at {

@@ -3,16 +3,15 @@
 use mathlib.Core.Path.{_≡_, _∙_}
 use Prim.Native.Nat.{ℕ, _≤_, min}
 use native.Mathlib.Omega.{arith}
-use Rattle.definitions.specs.Areas.{N, Areas, Arena, size, words, mentionCount}
+use Rattle.definitions.specs.Areas.{N, Areas, Arena, size, mentionCount}
 use Rattle.arena.specs.Sizes.{sizesOf, countedIn}
 use Rattle.arena.specs.declared.sizes.Sizes.{Sizes}
 
 exact : {n : ℕ} → n ≤ N → min n N ≡ n
 exact l = omega arith
 
-pub sizes-exact : (s : Areas) → ((a : Arena) → size s a ≤ N) → mentionCount s ≤ N → {z : Sizes}
-    → z ≡ countedIn (s .types) (s .constants) (s .overrides) (s .globals) (s .expressions) (s .mentions) → z ≡ sizesOf s
-unfolding countedIn size words mentionCount
+pub sizes-exact : (s : Areas) → ((a : Arena) → size s a ≤ N) → mentionCount s ≤ N → {z : Sizes} → z ≡ countedIn s → z ≡ sizesOf s
+unfolding countedIn
 sizes-exact s f m e = e ∙ λ i. record {
   types = exact (f Arena.types) i;
   constants = exact (f Arena.constants) i;

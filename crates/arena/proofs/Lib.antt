@@ -5,3 +5,4 @@ pub mod Elements
 pub mod Marks
 pub mod Once
 pub mod Sets
+pub mod Lent

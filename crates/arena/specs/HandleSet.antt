@@ -9,21 +9,17 @@ use lib.Dec.{eqb, ltb}
 use Rattle.definitions.specs.Areas.{N, Arena, types, constants, overrides, globals, expressions, Elem, at}
 use Rattle.arena.specs.declared.handle_set.Bases.{Bases}
 
--- where each arena's bits begin, the sum of the record counts before it, and where the last arena's end;
--- no sum passes N
-abbrev pub basesOf : ℕ → ℕ → ℕ → ℕ → ℕ → Bases
-basesOf t c o g e =
-    record {
-      constants = t;
-      overrides = min (t + c) N;
-      globals = min (t + c + o) N;
-      expressions = min (t + c + o + g) N;
-      end = min (t + c + o + g + e) N;
-    }
-
--- the same from how many records each arena has
+-- from how many records each arena has: where its bits begin, the sum of the counts before it, and where the last
+-- arena's end; no sum passes N
 abbrev pub bases : (Arena → ℕ) → Bases
-bases n = basesOf (n types) (n constants) (n overrides) (n globals) (n expressions)
+bases n =
+    record {
+      constants = n types;
+      overrides = min (n types + n constants) N;
+      globals = min (n types + n constants + n overrides) N;
+      expressions = min (n types + n constants + n overrides + n globals) N;
+      end = min (n types + n constants + n overrides + n globals + n expressions) N;
+    }
 
 -- how many they have together
 abbrev pub records : (Arena → ℕ) → ℕ

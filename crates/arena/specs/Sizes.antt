@@ -1,8 +1,7 @@
 -- How many records a module has, and what counting them gives.
 -- Assumes nothing.
-use Prim.Native.Nat.{_/_, min}
-use lib.ListN.{length}
-use Rattle.definitions.specs.Areas.{Words, N, Areas, Arena, size, width, mentionCount, mentionWidth}
+use Prim.Native.Nat.{ℕ, min}
+use Rattle.definitions.specs.Areas.{N, Areas, Arena, size, mentionCount}
 use Rattle.arena.specs.declared.sizes.Sizes.{Sizes}
 
 -- how many records each arena of a module has, and how many mentions there are
@@ -17,14 +16,22 @@ sizesOf s =
       mentions = mentionCount s;
     }
 
--- the counts of the records in these words, none past N: `sizesOf`, where no area has more
-unfoldable pub countedIn : Words → Words → Words → Words → Words → Words → Sizes
-countedIn t c o g e q =
+-- how many of them the arena has
+abbrev pub sizeIn : Sizes → Arena → ℕ
+sizeIn z Arena.types = z .types
+sizeIn z Arena.constants = z .constants
+sizeIn z Arena.overrides = z .overrides
+sizeIn z Arena.globals = z .globals
+sizeIn z Arena.expressions = z .expressions
+
+-- the same counts, none past N: `sizesOf`, where no area has more
+unfoldable pub countedIn : Areas → Sizes
+countedIn s =
     record {
-      types = min (length t / width Arena.types) N;
-      constants = min (length c / width Arena.constants) N;
-      overrides = min (length o / width Arena.overrides) N;
-      globals = min (length g / width Arena.globals) N;
-      expressions = min (length e / width Arena.expressions) N;
-      mentions = min (length q / mentionWidth) N;
+      types = min (size s Arena.types) N;
+      constants = min (size s Arena.constants) N;
+      overrides = min (size s Arena.overrides) N;
+      globals = min (size s Arena.globals) N;
+      expressions = min (size s Arena.expressions) N;
+      mentions = min (mentionCount s) N;
     }

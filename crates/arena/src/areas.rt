@@ -19,3 +19,6 @@ pub const MENTIONS: u32 = 7;
 pub const ARENAS: u32 = 5;
 
 pub const AREAS: u32 = 8;
+
+// A module that is only read: its areas, by their numbers.
+pub type Module<'a> = [&'a [u32]; AREAS as usize];

@@ -3,8 +3,11 @@ ghost use mathlib.Core.Path.{_≡_};
 ghost use mathlib.Core.Bool.{cond};
 ghost use Prim.Native.Nat.{_+_};
 ghost use Rattle.arena.specs.Elements.{elementOf};
-ghost use Rattle.arena.specs.HandleSet.{basesOf, bit, member, Inserted, Cleared};
+ghost use Rattle.arena.specs.HandleSet.{bases, bit, member, Inserted, Cleared};
+ghost use Rattle.arena.specs.Lent.{given, left};
+ghost use Rattle.arena.specs.Sizes.{sizeIn};
 use crate::Element;
+use crate::Sizes;
 use crate::capped;
 
 // Where the bits of each arena begin, those of types beginning at 0, and where the last arena's end.
@@ -18,18 +21,18 @@ pub struct Bases {
 
 impl Bases {
     // From the five arenas' record counts.
-    pub fn of(types: u32, constants: u32, overrides: u32, globals: u32, expressions: u32) -> Bases
-        ensures { λ r. ⌜ r ≡ basesOf types constants overrides globals expressions ⌝ }
+    pub fn of(z: Sizes) -> Bases
+        ensures { λ r. ⌜ r ≡ bases (sizeIn z) ⌝ }
     {
-        let to_overrides = capped(types, constants);
-        let to_globals = capped(to_overrides, overrides);
-        let to_expressions = capped(to_globals, globals);
+        let to_overrides = capped(z.types, z.constants);
+        let to_globals = capped(to_overrides, z.overrides);
+        let to_expressions = capped(to_globals, z.globals);
         Bases {
-            constants: types,
+            constants: z.types,
             overrides: to_overrides,
             globals: to_globals,
             expressions: to_expressions,
-            end: capped(to_expressions, expressions),
+            end: capped(to_expressions, z.expressions),
         }
     }
 }
@@ -56,7 +59,7 @@ pub fn bit(b: Bases, x: Element) -> usize
 
 // Is bit i set ? None is past the words' end.
 pub fn contains_bit(marks: &[u64], i: usize) -> bool
-    ensures { λ r. ⌜ r ≡ member (now (marks .entry)) i ⌝ }
+    ensures { λ r. ⌜ r ≡ member (given marks) i ⌝ }
 {
     if i / 64 < marks.len() {
         let word = marks[i / 64];
@@ -67,7 +70,7 @@ pub fn contains_bit(marks: &[u64], i: usize) -> bool
 
 // 1 where bit i is set, else 0. The remainder itself is answered, so that a loop over the bits needs no branch on them.
 pub fn bit_at(marks: &[u64], i: usize) -> u32
-    ensures { λ r. ⌜ r ≡ cond (member (now (marks .entry)) i) 1 0 ⌝ }
+    ensures { λ r. ⌜ r ≡ cond (member (given marks) i) 1 0 ⌝ }
 {
     if i / 64 < marks.len() {
         let word = marks[i / 64];
@@ -78,7 +81,7 @@ pub fn bit_at(marks: &[u64], i: usize) -> u32
 
 // Sets bit i; past the words' end nothing changes.
 pub fn insert_bit(marks: &mut [u64], i: usize)
-    ensures { λ _. ⌜ Inserted (now (marks .entry)) i (now (marks .exit)) ⌝ }
+    ensures { λ _. ⌜ Inserted (given marks) i (left marks) ⌝ }
 {
     if i / 64 < marks.len() {
         let w = marks[i / 64];
@@ -88,21 +91,21 @@ pub fn insert_bit(marks: &mut [u64], i: usize)
 
 // Is the element in the set ?
 pub fn contains(marks: &[u64], b: Bases, x: Element) -> bool
-    ensures { λ r. ⌜ r ≡ member (now (marks .entry)) (bit b (elementOf x)) ⌝ }
+    ensures { λ r. ⌜ r ≡ member (given marks) (bit b (elementOf x)) ⌝ }
 {
     contains_bit(marks, bit(b, x))
 }
 
 // Puts the element into the set.
 pub fn insert(marks: &mut [u64], b: Bases, x: Element)
-    ensures { λ _. ⌜ Inserted (now (marks .entry)) (bit b (elementOf x)) (now (marks .exit)) ⌝ }
+    ensures { λ _. ⌜ Inserted (given marks) (bit b (elementOf x)) (left marks) ⌝ }
 {
     insert_bit(marks, bit(b, x));
 }
 
 // Empties the set.
 pub fn clear(marks: &mut [u64])
-    ensures { λ _. ⌜ Cleared (now (marks .entry)) (now (marks .exit)) ⌝ }
+    ensures { λ _. ⌜ Cleared (given marks) (left marks) ⌝ }
 {
     let mut i = 0;
     while i < marks.len() {

@@ -1,12 +1,22 @@
 // The areas' records. Each kind carries its width, its limit, its words' places, its empty record and its readers.
 ghost use mathlib.Core.Path.{_≡_};
-ghost use Prim.Native.Nat.{_+_, _*_, _/_, _<_, min};
-ghost use lib.ListN.{length, getD, replicate};
-ghost use Rattle.definitions.specs.Areas.{N, Arena, width, widths, limits, wordOf, mentionWidth};
+ghost use Prim.Native.Nat.{_+_, _<_, min};
+ghost use lib.ListN.{getD, replicate};
+ghost use Rattle.definitions.specs.Areas.{N, Arena, width, widths, limits, lengthOf};
+ghost use Rattle.definitions.specs.Areas.{size, word, mentionCount, mentionWord};
+ghost use Rattle.arena.specs.Lent.{given, areasIn};
+use crate::AREAS;
+use crate::CONSTANTS;
 use crate::ConstantHandle;
+use crate::EXPRESSIONS;
 use crate::ExpressionHandle;
+use crate::GLOBALS;
 use crate::GlobalHandle;
+use crate::MENTIONS;
+use crate::Module;
+use crate::OVERRIDES;
 use crate::OverrideHandle;
+use crate::TYPES;
 use crate::TypeHandle;
 
 // "no handle"
@@ -21,7 +31,7 @@ const POOL_WIDTH: usize = 1;
 const POOL_LIMIT: usize = 16384;
 
 // Areas 0 to 7.
-const WIDTHS: [usize; 8] = [
+const WIDTHS: [usize; AREAS as usize] = [
     Type::WIDTH,
     Constant::WIDTH,
     Override::WIDTH,
@@ -32,7 +42,7 @@ const WIDTHS: [usize; 8] = [
     Mention::WIDTH,
 ];
 
-const LIMITS: [usize; 8] = [
+const LIMITS: [usize; AREAS as usize] = [
     Type::LIMIT,
     Constant::LIMIT,
     Override::LIMIT,
@@ -47,7 +57,7 @@ const LIMITS: [usize; 8] = [
 pub fn width(area: usize) -> usize
     ensures { λ r. ⌜ r ≡ getD widths area 1 ⌝ }
 {
-    if area < 8 {
+    if area < AREAS as usize {
         return WIDTHS[area];
     }
     1
@@ -57,8 +67,18 @@ pub fn width(area: usize) -> usize
 pub fn limit(area: usize) -> usize
     ensures { λ r. ⌜ r ≡ getD limits area 0 ⌝ }
 {
-    if area < 8 {
+    if area < AREAS as usize {
         return LIMITS[area];
+    }
+    0
+}
+
+// The length in words of an area, by its number; 0 past the last.
+pub fn length(m: &Module, area: usize) -> usize
+    ensures { λ r. ⌜ r ≡ lengthOf (areasIn (given m)) area ⌝ }
+{
+    if area < AREAS as usize {
+        return m[area].len();
     }
     0
 }
@@ -85,7 +105,7 @@ pub fn capped(a: u32, b: u32) -> u32
 
 // Word i of an area; 0 past its end.
 fn word(area: &[u32], i: usize) -> u32
-    ensures { λ r. ⌜ r ≡ getD (now (area .entry)) i 0 ⌝ }
+    ensures { λ r. ⌜ r ≡ getD (given area) i 0 ⌝ }
 {
     if i < area.len() {
         return area[i];
@@ -115,42 +135,42 @@ impl Type {
         [N; Type::WIDTH]
     }
 
-    pub fn count(types: &[u32]) -> usize
-        ensures { λ r. ⌜ r ≡ length (now (types .entry)) / width Arena.types ⌝ }
+    pub fn count(m: &Module) -> usize
+        ensures { λ r. ⌜ r ≡ size (areasIn (given m)) Arena.types ⌝ }
     {
-        types.len() / Type::WIDTH
+        m[TYPES as usize].len() / Type::WIDTH
     }
 
     // Word k of record h.
-    fn word(types: &[u32], h: TypeHandle, k: usize) -> u32
+    fn word(m: &Module, h: TypeHandle, k: usize) -> u32
         requires { ⌜ k < 4294967296 ⌝ }
-        ensures { λ r. ⌜ r ≡ wordOf (now (types .entry)) Arena.types (h .0) k ⌝ }
+        ensures { λ r. ⌜ r ≡ word (areasIn (given m)) Arena.types (h .0) k ⌝ }
     {
-        word(types, h.0 as usize * Type::WIDTH + k)
+        word(m[TYPES as usize], h.0 as usize * Type::WIDTH + k)
     }
 
-    pub fn kind(types: &[u32], h: TypeHandle) -> u32
-        ensures { λ r. ⌜ r ≡ wordOf (now (types .entry)) Arena.types (h .0) 0 ⌝ }
+    pub fn kind(m: &Module, h: TypeHandle) -> u32
+        ensures { λ r. ⌜ r ≡ word (areasIn (given m)) Arena.types (h .0) 0 ⌝ }
     {
-        Type::word(types, h, Type::KIND)
+        Type::word(m, h, Type::KIND)
     }
 
-    pub fn flags(types: &[u32], h: TypeHandle) -> u32
-        ensures { λ r. ⌜ r ≡ wordOf (now (types .entry)) Arena.types (h .0) 1 ⌝ }
+    pub fn flags(m: &Module, h: TypeHandle) -> u32
+        ensures { λ r. ⌜ r ≡ word (areasIn (given m)) Arena.types (h .0) 1 ⌝ }
     {
-        Type::word(types, h, Type::FLAGS)
+        Type::word(m, h, Type::FLAGS)
     }
 
-    pub fn a(types: &[u32], h: TypeHandle) -> u32
-        ensures { λ r. ⌜ r ≡ wordOf (now (types .entry)) Arena.types (h .0) 2 ⌝ }
+    pub fn a(m: &Module, h: TypeHandle) -> u32
+        ensures { λ r. ⌜ r ≡ word (areasIn (given m)) Arena.types (h .0) 2 ⌝ }
     {
-        Type::word(types, h, Type::A)
+        Type::word(m, h, Type::A)
     }
 
-    pub fn b(types: &[u32], h: TypeHandle) -> u32
-        ensures { λ r. ⌜ r ≡ wordOf (now (types .entry)) Arena.types (h .0) 3 ⌝ }
+    pub fn b(m: &Module, h: TypeHandle) -> u32
+        ensures { λ r. ⌜ r ≡ word (areasIn (given m)) Arena.types (h .0) 3 ⌝ }
     {
-        Type::word(types, h, Type::B)
+        Type::word(m, h, Type::B)
     }
 }
 
@@ -174,36 +194,36 @@ impl Constant {
         [N; Constant::WIDTH]
     }
 
-    pub fn count(constants: &[u32]) -> usize
-        ensures { λ r. ⌜ r ≡ length (now (constants .entry)) / width Arena.constants ⌝ }
+    pub fn count(m: &Module) -> usize
+        ensures { λ r. ⌜ r ≡ size (areasIn (given m)) Arena.constants ⌝ }
     {
-        constants.len() / Constant::WIDTH
+        m[CONSTANTS as usize].len() / Constant::WIDTH
     }
 
     // Word k of record h.
-    fn word(constants: &[u32], h: ConstantHandle, k: usize) -> u32
+    fn word(m: &Module, h: ConstantHandle, k: usize) -> u32
         requires { ⌜ k < 4294967296 ⌝ }
-        ensures { λ r. ⌜ r ≡ wordOf (now (constants .entry)) Arena.constants (h .0) k ⌝ }
+        ensures { λ r. ⌜ r ≡ word (areasIn (given m)) Arena.constants (h .0) k ⌝ }
     {
-        word(constants, h.0 as usize * Constant::WIDTH + k)
+        word(m[CONSTANTS as usize], h.0 as usize * Constant::WIDTH + k)
     }
 
-    pub fn named(constants: &[u32], h: ConstantHandle) -> u32
-        ensures { λ r. ⌜ r ≡ wordOf (now (constants .entry)) Arena.constants (h .0) 0 ⌝ }
+    pub fn named(m: &Module, h: ConstantHandle) -> u32
+        ensures { λ r. ⌜ r ≡ word (areasIn (given m)) Arena.constants (h .0) 0 ⌝ }
     {
-        Constant::word(constants, h, Constant::NAMED)
+        Constant::word(m, h, Constant::NAMED)
     }
 
-    pub fn ty(constants: &[u32], h: ConstantHandle) -> TypeHandle
-        ensures { λ r. ⌜ r .0 ≡ wordOf (now (constants .entry)) Arena.constants (h .0) 1 ⌝ }
+    pub fn ty(m: &Module, h: ConstantHandle) -> TypeHandle
+        ensures { λ r. ⌜ r .0 ≡ word (areasIn (given m)) Arena.constants (h .0) 1 ⌝ }
     {
-        TypeHandle(Constant::word(constants, h, Constant::TYPE))
+        TypeHandle(Constant::word(m, h, Constant::TYPE))
     }
 
-    pub fn init(constants: &[u32], h: ConstantHandle) -> ExpressionHandle
-        ensures { λ r. ⌜ r .0 ≡ wordOf (now (constants .entry)) Arena.constants (h .0) 2 ⌝ }
+    pub fn init(m: &Module, h: ConstantHandle) -> ExpressionHandle
+        ensures { λ r. ⌜ r .0 ≡ word (areasIn (given m)) Arena.constants (h .0) 2 ⌝ }
     {
-        ExpressionHandle(Constant::word(constants, h, Constant::INIT))
+        ExpressionHandle(Constant::word(m, h, Constant::INIT))
     }
 }
 
@@ -227,36 +247,36 @@ impl Override {
         [N; Override::WIDTH]
     }
 
-    pub fn count(overrides: &[u32]) -> usize
-        ensures { λ r. ⌜ r ≡ length (now (overrides .entry)) / width Arena.overrides ⌝ }
+    pub fn count(m: &Module) -> usize
+        ensures { λ r. ⌜ r ≡ size (areasIn (given m)) Arena.overrides ⌝ }
     {
-        overrides.len() / Override::WIDTH
+        m[OVERRIDES as usize].len() / Override::WIDTH
     }
 
     // Word k of record h.
-    fn word(overrides: &[u32], h: OverrideHandle, k: usize) -> u32
+    fn word(m: &Module, h: OverrideHandle, k: usize) -> u32
         requires { ⌜ k < 4294967296 ⌝ }
-        ensures { λ r. ⌜ r ≡ wordOf (now (overrides .entry)) Arena.overrides (h .0) k ⌝ }
+        ensures { λ r. ⌜ r ≡ word (areasIn (given m)) Arena.overrides (h .0) k ⌝ }
     {
-        word(overrides, h.0 as usize * Override::WIDTH + k)
+        word(m[OVERRIDES as usize], h.0 as usize * Override::WIDTH + k)
     }
 
-    pub fn named(overrides: &[u32], h: OverrideHandle) -> u32
-        ensures { λ r. ⌜ r ≡ wordOf (now (overrides .entry)) Arena.overrides (h .0) 0 ⌝ }
+    pub fn named(m: &Module, h: OverrideHandle) -> u32
+        ensures { λ r. ⌜ r ≡ word (areasIn (given m)) Arena.overrides (h .0) 0 ⌝ }
     {
-        Override::word(overrides, h, Override::NAMED)
+        Override::word(m, h, Override::NAMED)
     }
 
-    pub fn ty(overrides: &[u32], h: OverrideHandle) -> TypeHandle
-        ensures { λ r. ⌜ r .0 ≡ wordOf (now (overrides .entry)) Arena.overrides (h .0) 1 ⌝ }
+    pub fn ty(m: &Module, h: OverrideHandle) -> TypeHandle
+        ensures { λ r. ⌜ r .0 ≡ word (areasIn (given m)) Arena.overrides (h .0) 1 ⌝ }
     {
-        TypeHandle(Override::word(overrides, h, Override::TYPE))
+        TypeHandle(Override::word(m, h, Override::TYPE))
     }
 
-    pub fn init(overrides: &[u32], h: OverrideHandle) -> ExpressionHandle
-        ensures { λ r. ⌜ r .0 ≡ wordOf (now (overrides .entry)) Arena.overrides (h .0) 2 ⌝ }
+    pub fn init(m: &Module, h: OverrideHandle) -> ExpressionHandle
+        ensures { λ r. ⌜ r .0 ≡ word (areasIn (given m)) Arena.overrides (h .0) 2 ⌝ }
     {
-        ExpressionHandle(Override::word(overrides, h, Override::INIT))
+        ExpressionHandle(Override::word(m, h, Override::INIT))
     }
 }
 
@@ -278,30 +298,30 @@ impl Global {
         [N; Global::WIDTH]
     }
 
-    pub fn count(globals: &[u32]) -> usize
-        ensures { λ r. ⌜ r ≡ length (now (globals .entry)) / width Arena.globals ⌝ }
+    pub fn count(m: &Module) -> usize
+        ensures { λ r. ⌜ r ≡ size (areasIn (given m)) Arena.globals ⌝ }
     {
-        globals.len() / Global::WIDTH
+        m[GLOBALS as usize].len() / Global::WIDTH
     }
 
     // Word k of record h.
-    fn word(globals: &[u32], h: GlobalHandle, k: usize) -> u32
+    fn word(m: &Module, h: GlobalHandle, k: usize) -> u32
         requires { ⌜ k < 4294967296 ⌝ }
-        ensures { λ r. ⌜ r ≡ wordOf (now (globals .entry)) Arena.globals (h .0) k ⌝ }
+        ensures { λ r. ⌜ r ≡ word (areasIn (given m)) Arena.globals (h .0) k ⌝ }
     {
-        word(globals, h.0 as usize * Global::WIDTH + k)
+        word(m[GLOBALS as usize], h.0 as usize * Global::WIDTH + k)
     }
 
-    pub fn ty(globals: &[u32], h: GlobalHandle) -> TypeHandle
-        ensures { λ r. ⌜ r .0 ≡ wordOf (now (globals .entry)) Arena.globals (h .0) 0 ⌝ }
+    pub fn ty(m: &Module, h: GlobalHandle) -> TypeHandle
+        ensures { λ r. ⌜ r .0 ≡ word (areasIn (given m)) Arena.globals (h .0) 0 ⌝ }
     {
-        TypeHandle(Global::word(globals, h, Global::TYPE))
+        TypeHandle(Global::word(m, h, Global::TYPE))
     }
 
-    pub fn init(globals: &[u32], h: GlobalHandle) -> ExpressionHandle
-        ensures { λ r. ⌜ r .0 ≡ wordOf (now (globals .entry)) Arena.globals (h .0) 1 ⌝ }
+    pub fn init(m: &Module, h: GlobalHandle) -> ExpressionHandle
+        ensures { λ r. ⌜ r .0 ≡ word (areasIn (given m)) Arena.globals (h .0) 1 ⌝ }
     {
-        ExpressionHandle(Global::word(globals, h, Global::INIT))
+        ExpressionHandle(Global::word(m, h, Global::INIT))
     }
 }
 
@@ -321,31 +341,34 @@ impl Expression {
         [N; Expression::WIDTH]
     }
 
-    pub fn count(expressions: &[u32]) -> usize
-        ensures { λ r. ⌜ r ≡ length (now (expressions .entry)) / width Arena.expressions ⌝ }
+    pub fn count(m: &Module) -> usize
+        ensures { λ r. ⌜ r ≡ size (areasIn (given m)) Arena.expressions ⌝ }
     {
-        expressions.len() / Expression::WIDTH
+        m[EXPRESSIONS as usize].len() / Expression::WIDTH
     }
 
     // Word k of record h.
-    fn word(expressions: &[u32], h: ExpressionHandle, k: usize) -> u32
+    fn word(m: &Module, h: ExpressionHandle, k: usize) -> u32
         requires { ⌜ k < 4294967296 ⌝ }
-        ensures { λ r. ⌜ r ≡ wordOf (now (expressions .entry)) Arena.expressions (h .0) k ⌝ }
+        ensures { λ r. ⌜ r ≡ word (areasIn (given m)) Arena.expressions (h .0) k ⌝ }
     {
-        word(expressions, h.0 as usize * Expression::WIDTH + k)
+        word(
+            m[EXPRESSIONS as usize],
+            h.0 as usize * Expression::WIDTH + k,
+        )
     }
 
-    pub fn kind(expressions: &[u32], h: ExpressionHandle) -> u32
-        ensures { λ r. ⌜ r ≡ wordOf (now (expressions .entry)) Arena.expressions (h .0) 0 ⌝ }
+    pub fn kind(m: &Module, h: ExpressionHandle) -> u32
+        ensures { λ r. ⌜ r ≡ word (areasIn (given m)) Arena.expressions (h .0) 0 ⌝ }
     {
-        Expression::word(expressions, h, Expression::KIND)
+        Expression::word(m, h, Expression::KIND)
     }
 
     // Slot k from 1 to 9 is word k.
-    pub fn slot(expressions: &[u32], h: ExpressionHandle, k: u32) -> u32
-        ensures { λ r. ⌜ r ≡ wordOf (now (expressions .entry)) Arena.expressions (h .0) k ⌝ }
+    pub fn slot(m: &Module, h: ExpressionHandle, k: u32) -> u32
+        ensures { λ r. ⌜ r ≡ word (areasIn (given m)) Arena.expressions (h .0) k ⌝ }
     {
-        Expression::word(expressions, h, k as usize)
+        Expression::word(m, h, k as usize)
     }
 }
 
@@ -361,21 +384,27 @@ impl Mention {
 
     pub const HANDLE: usize = 1;
 
-    pub fn count(mentions: &[u32]) -> usize
-        ensures { λ r. ⌜ r ≡ length (now (mentions .entry)) / mentionWidth ⌝ }
+    pub fn count(m: &Module) -> usize
+        ensures { λ r. ⌜ r ≡ mentionCount (areasIn (given m)) ⌝ }
     {
-        mentions.len() / Mention::WIDTH
+        m[MENTIONS as usize].len() / Mention::WIDTH
     }
 
-    pub fn area(mentions: &[u32], h: u32) -> u32
-        ensures { λ r. ⌜ r ≡ getD (now (mentions .entry)) (h * mentionWidth + 0) 0 ⌝ }
+    pub fn area(m: &Module, h: u32) -> u32
+        ensures { λ r. ⌜ r ≡ mentionWord (areasIn (given m)) h 0 ⌝ }
     {
-        word(mentions, h as usize * Mention::WIDTH + Mention::AREA)
+        word(
+            m[MENTIONS as usize],
+            h as usize * Mention::WIDTH + Mention::AREA,
+        )
     }
 
-    pub fn handle(mentions: &[u32], h: u32) -> u32
-        ensures { λ r. ⌜ r ≡ getD (now (mentions .entry)) (h * mentionWidth + 1) 0 ⌝ }
+    pub fn handle(m: &Module, h: u32) -> u32
+        ensures { λ r. ⌜ r ≡ mentionWord (areasIn (given m)) h 1 ⌝ }
     {
-        word(mentions, h as usize * Mention::WIDTH + Mention::HANDLE)
+        word(
+            m[MENTIONS as usize],
+            h as usize * Mention::WIDTH + Mention::HANDLE,
+        )
     }
 }

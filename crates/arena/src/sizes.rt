@@ -2,11 +2,13 @@
 ghost use mathlib.Core.Path.{_≡_};
 ghost use Prim.Native.Nat.{min};
 ghost use Rattle.definitions.specs.Areas.{N};
+ghost use Rattle.arena.specs.Lent.{given, areasIn};
 ghost use Rattle.arena.specs.Sizes.{countedIn};
 use crate::Constant;
 use crate::Expression;
 use crate::Global;
 use crate::Mention;
+use crate::Module;
 use crate::N;
 use crate::Override;
 use crate::Type;
@@ -33,24 +35,16 @@ fn counted(n: usize) -> u32
 
 impl Sizes {
     // Of any words; no count passes N.
-    pub fn of<'a>(
-        types: &'a [u32],
-        constants: &'a [u32],
-        overrides: &'a [u32],
-        globals: &'a [u32],
-        expressions: &'a [u32],
-        mentions: &'a [u32],
-    ) -> Sizes
-        ensures { λ r. ⌜ r ≡ countedIn (now (types .entry)) (now (constants .entry)) (now (overrides .entry))
-            (now (globals .entry)) (now (expressions .entry)) (now (mentions .entry)) ⌝ }
+    pub fn of(m: &Module) -> Sizes
+        ensures { λ r. ⌜ r ≡ countedIn (areasIn (given m)) ⌝ }
     {
         Sizes {
-            types: counted(Type::count(types)),
-            constants: counted(Constant::count(constants)),
-            overrides: counted(Override::count(overrides)),
-            globals: counted(Global::count(globals)),
-            expressions: counted(Expression::count(expressions)),
-            mentions: counted(Mention::count(mentions)),
+            types: counted(Type::count(m)),
+            constants: counted(Constant::count(m)),
+            overrides: counted(Override::count(m)),
+            globals: counted(Global::count(m)),
+            expressions: counted(Expression::count(m)),
+            mentions: counted(Mention::count(m)),
         }
     }
 }

@@ -29,6 +29,6 @@ words-make (Refused f) s p = refl
 
 -- what `compact` promises, in ten words and by the flag's word
 pub boundary-closes : (s s′ : Areas) (p p′ : Maps) (w : ℕ) (k : KeepUnused) (r : Compacted) (a : Answer)
-    → keepOf k ≡ keepWord w → Compacts s p (keepOf k) r s′ p′ → a ≡ answerOf r → outcomeIn a s′ p′ ≡ outcome s p (keepWord w)
+    → keepOf k ≡ keepWord w → Compacts (keepOf k) r s p s′ p′ → a ≡ answerOf r → outcomeIn a s′ p′ ≡ outcome s p (keepWord w)
 boundary-closes s s′ p p′ w k r a e q h =
     ap (λ x. outcomeIn x s′ p′) h ∙ words-make r s′ p′ ∙ q .outcome-is ∙ ap (λ b. outcome s p b) e

@@ -1,13 +1,10 @@
 // The C boundary: each function answers what the Rattle function of its name answers, as a plain C value.
 // Any words may be handed in.
 ghost use mathlib.Core.Path.{_≡_};
-ghost use mathlib.Core.List.{[], _∷_};
-ghost use lib.ListN.{length};
-ghost use Rattle.definitions.specs.Areas.{areasOf};
 ghost use Rattle.definitions.specs.Refusals.{check, reported};
-ghost use Rattle.definitions.specs.Outcome.{outcome};
+ghost use Rattle.definitions.specs.Outcome.{lengths, outcome};
 ghost use Rattle.definitions.specs.MapEntries.{lookup, adjust, range};
-ghost use Rattle.adjust.specs.Rewrite.{mapsOf};
+ghost use Rattle.arena.specs.Lent.{given, areas, maps, over};
 ghost use Rattle.faults.specs.Checking.{reportOf};
 ghost use Rattle.compact.specs.Answer.{keepOf};
 ghost use Rattle.cadnohal.specs.Boundary.{keepWord, placed, answerOf, answerTo, outcomeIn, adjustedIn, rangedIn};
@@ -125,7 +122,9 @@ pub extern "C" fn cadnohal_compact(
     expression_map: &mut [u32],
     keep_unused: u32,
 ) -> Answer
-    ensures { λ r. ⌜ outcomeIn r (areasOf (now (types .exit)) (now (constants .exit)) (now (overrides .exit)) (now (globals .exit)) (now (expressions .exit)) (now (members .exit)) (now (components .exit)) (now (mentions .exit))) (mapsOf (now («type_map» .exit)) (now («constant_map» .exit)) (now («override_map» .exit)) (now («global_map» .exit)) (now («expression_map» .exit))) ≡ outcome (areasOf (now (types .entry)) (now (constants .entry)) (now (overrides .entry)) (now (globals .entry)) (now (expressions .entry)) (now (members .entry)) (now (components .entry)) (now (mentions .entry))) (mapsOf (now («type_map» .entry)) (now («constant_map» .entry)) (now («override_map» .entry)) (now («global_map» .entry)) (now («expression_map» .entry))) (keepWord «keep_unused») ⌝ }
+    ensures { λ r. ⌜ over (λ s p s′ p′. outcomeIn r s′ p′ ≡ outcome s p (keepWord «keep_unused»))
+        types constants overrides globals expressions members components mentions
+        «type_map» «constant_map» «override_map» «global_map» «expression_map» ⌝ }
 {
     let r = compact::compact(
         types,
@@ -163,7 +162,9 @@ pub extern "C" fn cadnohal_check<'a>(
     global_map: &'a [u32],
     expression_map: &'a [u32],
 ) -> Answer
-    ensures { λ r. ⌜ r ≡ answerTo (reported (check (areasOf (now (types .entry)) (now (constants .entry)) (now (overrides .entry)) (now (globals .entry)) (now (expressions .entry)) (now (members .entry)) (now (components .entry)) (now (mentions .entry))) (length (now («type_map» .entry)) ∷ length (now («constant_map» .entry)) ∷ length (now («override_map» .entry)) ∷ length (now («global_map» .entry)) ∷ length (now («expression_map» .entry)) ∷ []))) ⌝ }
+    ensures { λ r. ⌜ r ≡ answerTo (reported (check
+        (areas given types constants overrides globals expressions members components mentions)
+        (lengths (maps given «type_map» «constant_map» «override_map» «global_map» «expression_map»)))) ⌝ }
 {
     let v = faults::check(
         types,
@@ -186,7 +187,7 @@ pub extern "C" fn cadnohal_check<'a>(
 // `handle_map::lookup`: the new handle, or N.
 #[no_mangle]
 pub extern "C" fn cadnohal_lookup(map: &[u32], handle: u32) -> u32
-    ensures { λ r. ⌜ r ≡ lookup (now (map .entry)) handle ⌝ }
+    ensures { λ r. ⌜ r ≡ lookup (given map) handle ⌝ }
 {
     handle_map::lookup(map, handle)
 }
@@ -194,7 +195,7 @@ pub extern "C" fn cadnohal_lookup(map: &[u32], handle: u32) -> u32
 // `handle_map::adjust`: the new handle, or 8 past the map's end and 9 where it was dropped.
 #[no_mangle]
 pub extern "C" fn cadnohal_adjust(map: &[u32], handle: u32) -> AdjustedAnswer
-    ensures { λ r. ⌜ adjustedIn r ≡ adjust (now (map .entry)) handle ⌝ }
+    ensures { λ r. ⌜ adjustedIn r ≡ adjust (given map) handle ⌝ }
 {
     match handle_map::adjust(map, handle) {
         Adjusted::To(h) => AdjustedAnswer {
@@ -215,7 +216,7 @@ pub extern "C" fn cadnohal_adjust(map: &[u32], handle: u32) -> AdjustedAnswer
 // `handle_map::adjust_range`: the range shrunk to its live handles, or 8.
 #[no_mangle]
 pub extern "C" fn cadnohal_adjust_range(map: &[u32], start: u32, end: u32) -> RangeAnswer
-    ensures { λ r. ⌜ rangedIn r ≡ range (now (map .entry)) start end ⌝ }
+    ensures { λ r. ⌜ rangedIn r ≡ range (given map) start end ⌝ }
 {
     match handle_map::adjust_range(map, start, end) {
         Ranged::Span(a, b) => RangeAnswer {

@@ -25,20 +25,22 @@ use Rattle.definitions.proofs.Identity.{whole, outcome-self}
 use Rattle.definitions.proofs.ListLaws.{total-any}
 use Rattle.definitions.proofs.Counts.{run-words}
 use Rattle.definitions.proofs.Unchanged.{accepted-is, outcome-accepted}
-use Rattle.arena.specs.HandleSet.{basesOf, bases, base}
+use Rattle.arena.specs.HandleSet.{bases, base}
 use Rattle.arena.specs.declared.handle_set.Bases.{Bases}
 use Rattle.arena.specs.Marks.{Marks}
 use Rattle.handle_map.specs.FromSet.{inSet, mapped}
-use Rattle.adjust.specs.Rewrite.{mapsOf, arenaBy, runsBy, poolBy, mentionsBy}
+use Rattle.arena.specs.Lent.{mapsOf}
+use Rattle.adjust.specs.Rewrite.{arenaBy, runsBy, poolBy, mentionsBy}
 use Rattle.adjust.proofs.Laws.{runs-after, areas-after}
 use Rattle.faults.specs.Checking.{reportOf, verdictOf}
 use Rattle.faults.proofs.Once.{verdict-told}
 use Rattle.faults.specs.declared.Verdict.{Verdict}
 use Rattle.faults.specs.declared.Fault.{Fault}
 use Rattle.faults.specs.declared.Verdict.the-variants as verdict
-use Rattle.arena.specs.Sizes.{sizesOf}
+use Rattle.arena.specs.Sizes.{sizesOf, sizeIn}
 use Rattle.arena.specs.declared.sizes.Sizes.{Sizes}
 use Rattle.compact.specs.Answer.{outcomeWith, Compacts}
+use Rattle.compact.proofs.Marking.{bases-due}
 use Rattle.compact.specs.declared.Compacted.the-variants.{Kept, Refused}
 
 -- two tests that agree on the first n records number them alike
@@ -103,7 +105,7 @@ map-room s p t a = go a (areas-all 3 _ 5 (parts _ t .1 .1 .0))
 -- ---- a refusal
 
 pub refused-closes : (s : Areas) (p : Maps) (keep : Bool) (v : Verdict) {f : Fault} → reportOf v ≡ reported (check s (lengths p)) → v ≡ verdict.Refused f
-    → Compacts s p keep (Refused f) s p
+    → Compacts keep (Refused f) s p s p
 unfolding outcome outcomeOf passes
 refused-closes s p keep v e q =
     let t = sym (ap verdictOf q) ∙ verdict-told v (check s (lengths p)) e in
@@ -114,11 +116,6 @@ refused-closes s p keep v e q =
 pub passed : (s : Areas) (p : Maps) (v : Verdict) → reportOf v ≡ reported (check s (lengths p)) → v ≡ verdict.Accepted → T (passes (check s (lengths p)))
 unfolding passes
 passed s p v e q = subst (λ r. T (passes r)) (sym (ap verdictOf q) ∙ verdict-told v (check s (lengths p)) e) tt
-
--- the bases made of the sizes
-pub bases-due : (s : Areas) (z : Sizes) (b : Bases) → z ≡ sizesOf s → b ≡ basesOf (z .types) (z .constants) (z .overrides) (z .globals) (z .expressions)
-    → b ≡ bases (size s)
-bases-due s z b ze be = be ∙ ap (λ y. basesOf (y .types) (y .constants) (y .overrides) (y .globals) (y .expressions)) ze
 
 -- the runs of what is kept lie in a pool of few words
 runs-few : (s : Areas) → Sound s → (m : List Elem) (a : Arena) → T (eqb (runsBefore s a (size s a)) (length (pool s a))) → length (pool s a) ≤ 16384
@@ -154,7 +151,7 @@ Pooled own a ws old r new = (new ≡ poolBy own a ws old) × (r ≡ length (runs
 
 module _ (s : Areas) (p : Maps) (keep : Bool) (t : T (passes (check s (lengths p)))) (ws : List ℕ) (k : Marks s ws (kept s keep))
     {m0 m1 m2 m3 m4 : Words} {r0 r1 r2 r3 r4 : ℕ} (z : Sizes) (b : Bases) (ze : z ≡ sizesOf s)
-    (be : b ≡ basesOf (z .types) (z .constants) (z .overrides) (z .globals) (z .expressions))
+    (be : b ≡ bases (sizeIn z))
     (f0 : FromSet ws 0 (z .types) (p .types) r0 m0)
     (f1 : FromSet ws (b .constants) (z .constants) (p .constants) r1 m1)
     (f2 : FromSet ws (b .overrides) (z .overrides) (p .overrides) r2 m2)
@@ -162,7 +159,7 @@ module _ (s : Areas) (p : Maps) (keep : Bool) (t : T (passes (check s (lengths p
     (f4 : FromSet ws (b .expressions) (z .expressions) (p .expressions) r4 m4)
   where
     bases-are : b ≡ bases (size s)
-    bases-are = bases-due s z b ze be
+    bases-are = bases-due s ze be
 
     -- each map and each count
     made : (a : Arena) (from n r : ℕ) (new : Words) → from ≡ base (bases (size s)) a → n ≡ size s a → FromSet ws from n (mapOf p a) r new
@@ -274,8 +271,8 @@ module _ (s : Areas) (p : Maps) (keep : Bool) (t : T (passes (check s (lengths p
 
       -- for the flag that was asked for
       pub whole-closes : {keep′ : Bool} → keep ≡ keep′
-          → Compacts s p keep′
-          (Kept (record { types = r0; constants = r1; overrides = r2; globals = r3; expressions = r4; members = length (s .members); components = length (s .components) })) s
+          → Compacts keep′
+          (Kept (record { types = r0; constants = r1; overrides = r2; globals = r3; expressions = r4; members = length (s .members); components = length (s .components) })) s p s
           (mapsOf m0 m1 m2 m3 m4)
       unfolding passes
       whole-closes h = record { verdict = sym (ap passes (accepted-is (check s (lengths p)) t)); outcome-is = whole-due ∙ ap (outcome s p) h }
@@ -335,7 +332,7 @@ module _ (s : Areas) (p : Maps) (keep : Bool) (t : T (passes (check s (lengths p
 
         -- for the flag that was asked for
         pub accepted-closes : {keep′ : Bool} → keep ≡ keep′
-            → Compacts s p keep′ (Kept (record { types = r0; constants = r1; overrides = r2; globals = r3; expressions = r4; members = k5; components = k6 }))
+            → Compacts keep′ (Kept (record { types = r0; constants = r1; overrides = r2; globals = r3; expressions = r4; members = k5; components = k6 })) s p
             (areasOf t′ c′ o′ g′ e′ n′ w′ q′) (mapsOf m0 m1 m2 m3 m4)
         unfolding passes
         accepted-closes e =

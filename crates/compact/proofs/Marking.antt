@@ -12,18 +12,18 @@ use Rattle.definitions.specs.Areas.{Areas, types, expressions, size, mentionCou
 use Rattle.definitions.specs.Order.{visits}
 use Rattle.definitions.specs.Sweep.{kept}
 use Rattle.definitions.proofs.Accepted.{Sound, facts, size-few}
-use Rattle.arena.specs.HandleSet.{bases, member, room}
+use Rattle.arena.specs.HandleSet.{bases, member}
 use Rattle.arena.specs.declared.handle_set.Bases.{Bases}
 use Rattle.arena.specs.Marks.{Marks}
-use Rattle.arena.specs.Sizes.{sizesOf, countedIn}
+use Rattle.arena.specs.Sizes.{sizesOf, sizeIn, countedIn}
 use Rattle.arena.specs.declared.sizes.Sizes.{Sizes}
 use Rattle.arena.proofs.Counting.{sizes-exact}
 use Rattle.arena.proofs.Elements.{end-records}
 use Rattle.arena.proofs.Marks.{marks-none}
-use Rattle.trace.specs.Bits.{Holds, Marked, sweepBits, rootsIn}
+use Rattle.trace.specs.Bits.{Marked, Swept, rootsIn}
 use Rattle.trace.proofs.Bridge.{roots-in, records-few, root-marks, kept-marks}
 use Rattle.tandem.proofs.Laws.{whole-order}
-use Rattle.compact.specs.Answer.{Accepts}
+use Rattle.compact.specs.Answer.{Accepts, MarksKept}
 
 -- words of 0 hold nothing
 getD-zeros : (n i : ℕ) → _≡_ {A = ℕ} (getD (replicate n 0) i 0) 0
@@ -45,17 +45,16 @@ unfolding mentionCount recordsOf lengthOf allWords widths limits
 mentions-few s c = leb→le _ _ (c .few 7 (lit< tt))
 
 -- so that the counts are its sizes
-pub sizes-are : (s : Areas) → Accepts s → {z : Sizes}
-    → z ≡ countedIn (s .types) (s .constants) (s .overrides) (s .globals) (s .expressions) (s .mentions) → z ≡ sizesOf s
+sizes-are : (s : Areas) → Accepts s → {z : Sizes} → z ≡ countedIn s → z ≡ sizesOf s
 sizes-are s a e =
     let c = sound s a in
     sizes-exact s (λ x. omega (arith, size-few s (c .few) x)) (omega (arith, mentions-few s c)) e
 
 -- what the two stages do to the words, by the sizes and the bases they are given
-abbrev pub Stages : Areas → Bool → Sizes → Bases → List ℕ → List ℕ → List ℕ → Type 0
+abbrev Stages : Areas → Bool → Sizes → Bases → List ℕ → List ℕ → List ℕ → Type 0
 Stages s keep z b before between after =
     Marked s b (rootsIn s keep z) before between
-    → Holds between (sweepBits s b (room between) (take (z .types + z .expressions) (visits s (z .types) (z .expressions))) (member between)) after
+    → Swept s b (take (z .types + z .expressions) (visits s (z .types) (z .expressions))) between after
     → Marks s after (kept s keep)
 
 stages : (s : Areas) → Sound s → (keep : Bool) {before between after : List ℕ} → before ≡ replicate 320 0
@@ -67,11 +66,19 @@ stages s c keep {before} {between} {after} z r h =
     let empty : Marks s before [] = marks-none s before before (record { as-long = refl; none = λ j. ap (λ w. member w j) z ∙ zeros-hold 320 j }) in
     let m = root-marks s c keep (omega arith) empty (subst (λ x. Marked s (bases (size s)) x before between) (roots-in s keep) r) in
     kept-marks s c keep (omega arith) m
-    (subst (λ o. Holds between (sweepBits s (bases (size s)) (room between) o (member between)) after) (whole-order s (size s types + size s expressions) (le-refl _)) h)
+    (subst (λ o. Swept s (bases (size s)) o between after) (whole-order s (size s types + size s expressions) (le-refl _)) h)
 
--- over emptied words, with the module's own sizes and bases, they leave what is kept
-pub marking : (s : Areas) → Accepts s → (keep : Bool) (z : Sizes) (b : Bases) → z ≡ sizesOf s → b ≡ bases (size s) → {before between after : List ℕ}
-    → before ≡ replicate 320 0 → Stages s keep z b before between after
-marking s a keep z b ze be {before} {between} {after} e =
+-- the bases made of the sizes
+pub bases-due : (s : Areas) {z : Sizes} {b : Bases} → z ≡ sizesOf s → b ≡ bases (sizeIn z) → b ≡ bases (size s)
+bases-due s ze be = be ∙ ap (λ y. bases (sizeIn y)) ze
+
+-- over emptied words, with what was counted and the bases made of it, they leave what is kept
+pub marking : (s : Areas) → Accepts s → (keep : Bool) (z : Sizes) (b : Bases) → z ≡ countedIn s → b ≡ bases (sizeIn z) → {before between after : List ℕ}
+    → before ≡ replicate 320 0 → Marked s b (rootsIn s keep z) before between
+    → Swept s b (take (z .types + z .expressions) (visits s (z .types) (z .expressions))) between after → MarksKept s keep z after
+marking s a keep z b ce be {before} {between} {after} e m w =
+    let ze = sizes-are s a ce in
+    let all : Stages s keep z b before between after =
     subst (λ y. Stages s keep y b before between after) (sym ze)
-    (subst (λ y. Stages s keep (sizesOf s) y before between after) (sym be) (stages s (sound s a) keep e))
+    (subst (λ y. Stages s keep (sizesOf s) y before between after) (sym (bases-due s ze be)) (stages s (sound s a) keep e)) in
+    (ze, all m w)

@@ -37,7 +37,7 @@ answer-once (Refused f) (Refused g) s s′ p p′ v e = λ i.
 
 -- no second outcome satisfies the contract: neither another answer nor another word of any area or map
 pub compact-once : (s : Areas) (p : Maps) (keep : Bool) (r q : Compacted) (s′ s″ : Areas) (p′ p″ : Maps)
-    → Compacts s p keep r s′ p′ → Compacts s p keep q s″ p″ → (r ≡ q) × (s′ ≡ s″) × (p′ ≡ p″)
+    → Compacts keep r s p s′ p′ → Compacts keep q s p s″ p″ → (r ≡ q) × (s′ ≡ s″) × (p′ ≡ p″)
 compact-once s p keep r q s′ s″ p′ p″ a b =
     let e : outcomeWith r s′ p′ ≡ outcomeWith q s″ p″ = a .outcome-is ∙ sym (b .outcome-is) in
     (answer-once r q s′ s″ p′ p″ (a .verdict ∙ sym (b .verdict)) e, sym (areas-of r s′ p′) ∙ ap (λ o. o .areas) e ∙ areas-of q s″ p″, sym (maps-of r s′ p′) ∙ ap (λ o. o .maps) e ∙ maps-of q s″ p″)
@@ -52,5 +52,5 @@ compact-once s p keep r q s′ s″ p′ p″ a b =
 
 -- where the answer is that the module was accepted, demand 3 holds of it
 pub compact-demand3 : (s : Areas) (p : Maps) (keep : Bool) (r : Compacted) (s′ : Areas) (p′ : Maps)
-    → Compacts s p keep r s′ p′ → T (isAccepted r) → Demand3 s keep
+    → Compacts keep r s p s′ p′ → T (isAccepted r) → Demand3 s keep
 compact-demand3 s p keep r s′ p′ a t = demand3 s (lengths p) keep (subst T (a .verdict) t)

@@ -6,8 +6,12 @@ use mathlib.Core.List.{List, [], _∷_}
 use Prim.Native.Nat.{ℕ}
 use lib.Dec.{T}
 use Rattle.definitions.specs.Areas.{Areas}
+use Rattle.definitions.specs.Sweep.{kept}
 use Rattle.definitions.specs.Refusals.{check, passes}
 use Rattle.definitions.specs.Outcome.{Maps, Outcome, lengths, outcome}
+use Rattle.arena.specs.Marks.{Marks}
+use Rattle.arena.specs.Sizes.{sizesOf}
+use Rattle.arena.specs.declared.sizes.Sizes.{Sizes}
 use Rattle.compact.specs.declared.KeepUnused.{KeepUnused}
 use Rattle.compact.specs.declared.KeepUnused.the-variants.{No, Yes}
 use Rattle.compact.specs.declared.Counts.{Counts}
@@ -17,6 +21,10 @@ use Rattle.compact.specs.declared.Compacted.the-variants.{Kept, Refused}
 -- the module is accepted, with some maps
 abbrev pub Accepts : Areas → Type 0
 Accepts s = (maps : List ℕ) × T (passes (check s maps))
+
+-- the sizes are the module's, and the words stand for what is kept
+abbrev pub MarksKept : Areas → Bool → Sizes → List ℕ → Type 0
+MarksKept s keep z ws = (z ≡ sizesOf s) × Marks s ws (kept s keep)
 
 -- `KeepUnused::Yes` is true
 abbrev pub keepOf : KeepUnused → Bool
@@ -46,6 +54,6 @@ outcomeWith (Refused f) s p =
     }
 
 -- all that is promised: the answer tells whether the check passes, and with every lent word it is document 01's outcome
-pub record Compacts (s : Areas) (p : Maps) (keep : Bool) (r : Compacted) (s′ : Areas) (p′ : Maps) : Type 0 where
+pub record Compacts (keep : Bool) (r : Compacted) (s : Areas) (p : Maps) (s′ : Areas) (p′ : Maps) : Type 0 where
   pub verdict : isAccepted r ≡ passes (check s (lengths p))
   pub outcome-is : outcomeWith r s′ p′ ≡ outcome s p keep

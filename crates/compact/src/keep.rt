@@ -3,49 +3,38 @@ ghost use mathlib.Core.Path.{_≡_};
 ghost use mathlib.Core.Bool.{_&&_};
 ghost use lib.Dec.{eqb};
 ghost use lib.ListN.{replicate};
-ghost use Rattle.definitions.specs.Areas.{areasOf, size};
-ghost use Rattle.definitions.specs.Sweep.{kept};
-ghost use Rattle.arena.specs.HandleSet.{bases};
-ghost use Rattle.arena.specs.Marks.{Marks};
-ghost use Rattle.arena.specs.Sizes.{sizesOf};
-ghost use Rattle.compact.specs.Answer.{Accepts};
+ghost use Rattle.arena.specs.Lent.{given, left, areas};
+ghost use Rattle.compact.specs.Answer.{Accepts, MarksKept};
+use crate::Counts;
 use arena::Sizes;
 use arena::handle_set::Bases;
 use tandem::Left;
 
 // Is every record kept ?
-pub fn all_kept(
-    z: Sizes,
-    types: u32,
-    constants: u32,
-    overrides: u32,
-    globals: u32,
-    expressions: u32,
-) -> bool
-    ensures { λ r. ⌜ r ≡ (eqb types (z .types) && (eqb constants (z .constants) && (eqb overrides (z .overrides)
-        && (eqb globals (z .globals) && eqb expressions (z .expressions))))) ⌝ }
+pub fn all_kept(z: Sizes, n: Counts) -> bool
+    ensures { λ r. ⌜ r ≡ (eqb (n .types) (z .types) && (eqb (n .constants) (z .constants)
+        && (eqb (n .overrides) (z .overrides) && (eqb (n .globals) (z .globals)
+        && eqb (n .expressions) (z .expressions))))) ⌝ }
 {
-    if types != z.types {
+    if n.types != z.types {
         return false;
     }
-    if constants != z.constants {
+    if n.constants != z.constants {
         return false;
     }
-    if overrides != z.overrides {
+    if n.overrides != z.overrides {
         return false;
     }
-    if globals != z.globals {
+    if n.globals != z.globals {
         return false;
     }
-    expressions == z.expressions
+    n.expressions == z.expressions
 }
 
-// Marks what the sweep keeps.
+// Marks what the sweep keeps, and answers how many records there are.
 pub fn mark<'a>(
     marks: &mut [u64],
     keep: bool,
-    b: Bases,
-    z: Sizes,
     types: &'a [u32],
     constants: &'a [u32],
     overrides: &'a [u32],
@@ -54,15 +43,13 @@ pub fn mark<'a>(
     members: &'a [u32],
     components: &'a [u32],
     mentions: &'a [u32],
-)
-    requires { ⌜ (Accepts (areasOf (now (types)) (now (constants)) (now (overrides)) (now (globals)) (now (expressions)) (now (members)) (now (components)) (now (mentions)))) × (z ≡ sizesOf (areasOf (now (types)) (now (constants)) (now (overrides)) (now (globals)) (now (expressions)) (now (members)) (now (components)) (now (mentions)))) × (b ≡ bases (size (areasOf (now (types)) (now (constants)) (now (overrides)) (now (globals)) (now (expressions)) (now (members)) (now (components)) (now (mentions))))) × (now marks ≡ replicate 320 0) ⌝ }
-    ensures { λ _. ⌜ Marks (areasOf (now (types .entry)) (now (constants .entry)) (now (overrides .entry)) (now (globals .entry)) (now (expressions .entry)) (now (members .entry)) (now (components .entry)) (now (mentions .entry))) (now (marks .exit)) (kept (areasOf (now (types .entry)) (now (constants .entry)) (now (overrides .entry)) (now (globals .entry)) (now (expressions .entry)) (now (members .entry)) (now (components .entry)) (now (mentions .entry))) keep) ⌝ }
+) -> Sizes
+    requires { ⌜ Accepts (areas now types constants overrides globals expressions members components mentions) ⌝ }
+    requires { ⌜ now marks ≡ replicate 320 0 ⌝ }
+    ensures { λ r. ⌜ MarksKept (areas given types constants overrides globals expressions members components mentions)
+        keep r (left marks) ⌝ }
 {
-    trace::mark_roots(
-        marks,
-        b,
-        keep,
-        z,
+    let m = [
         types,
         constants,
         overrides,
@@ -71,23 +58,14 @@ pub fn mark<'a>(
         members,
         components,
         mentions,
-    );
-    let left = Left {
+    ];
+    let z = Sizes::of(&m);
+    let b = Bases::of(z);
+    trace::mark_roots(marks, b, keep, z, &m);
+    let all = Left {
         types: z.types,
         expressions: z.expressions,
     };
-    tandem::type_expression_tandem(
-        marks,
-        b,
-        left,
-        z.types as usize + z.expressions as usize,
-        types,
-        constants,
-        overrides,
-        globals,
-        expressions,
-        members,
-        components,
-        mentions,
-    );
+    tandem::type_expression_tandem(marks, b, all, z.types as usize + z.expressions as usize, &m);
+    z
 }

@@ -2,14 +2,12 @@
 mod keep;
 
 ghost use mathlib.Core.Path.{_≡_};
-ghost use Rattle.definitions.specs.Areas.{areasOf};
-ghost use Rattle.adjust.specs.Rewrite.{mapsOf};
+ghost use Rattle.arena.specs.Lent.{over};
 ghost use Rattle.compact.specs.Answer.{keepOf, Compacts};
 use arena::CONSTANTS;
 use arena::EXPRESSIONS;
 use arena::GLOBALS;
 use arena::OVERRIDES;
-use arena::Sizes;
 use arena::TYPES;
 use arena::handle_set::Bases;
 pub use faults::Fault;
@@ -65,7 +63,9 @@ pub fn compact(
     expression_map: &mut [u32],
     keep_unused: KeepUnused,
 ) -> Compacted
-    ensures { λ r. ⌜ Compacts (areasOf (now (types .entry)) (now (constants .entry)) (now (overrides .entry)) (now (globals .entry)) (now (expressions .entry)) (now (members .entry)) (now (components .entry)) (now (mentions .entry))) (mapsOf (now («type_map» .entry)) (now («constant_map» .entry)) (now («override_map» .entry)) (now («global_map» .entry)) (now («expression_map» .entry))) (keepOf «keep_unused») r (areasOf (now (types .exit)) (now (constants .exit)) (now (overrides .exit)) (now (globals .exit)) (now (expressions .exit)) (now (members .exit)) (now (components .exit)) (now (mentions .exit))) (mapsOf (now («type_map» .exit)) (now («constant_map» .exit)) (now («override_map» .exit)) (now («global_map» .exit)) (now («expression_map» .exit))) ⌝ }
+    ensures { λ r. ⌜ over (Compacts (keepOf «keep_unused») r)
+        types constants overrides globals expressions members components mentions
+        «type_map» «constant_map» «override_map» «global_map» «expression_map» ⌝ }
 {
     let v = faults::check(
         types,
@@ -85,14 +85,10 @@ pub fn compact(
     if let Verdict::Refused(f) = v {
         return Compacted::Refused(f);
     }
-    let z = Sizes::of(types, constants, overrides, globals, expressions, mentions);
-    let b = Bases::of(z.types, z.constants, z.overrides, z.globals, z.expressions);
     let mut marks = [0u64; 320];
-    keep::mark(
+    let z = keep::mark(
         &mut marks,
         keeps(keep_unused),
-        b,
-        z,
         types,
         constants,
         overrides,
@@ -102,6 +98,7 @@ pub fn compact(
         components,
         mentions,
     );
+    let b = Bases::of(z);
     let kept_types = handle_map::from_set(&marks, 0, z.types, type_map);
     let kept_constants = handle_map::from_set(&marks, b.constants, z.constants, constant_map);
     let kept_overrides = handle_map::from_set(&marks, b.overrides, z.overrides, override_map);
@@ -112,24 +109,18 @@ pub fn compact(
         z.expressions,
         expression_map,
     );
-    // Nothing is lost: the areas stay as they are.
-    if keep::all_kept(
-        z,
-        kept_types,
-        kept_constants,
-        kept_overrides,
-        kept_globals,
-        kept_expressions,
-    ) {
-        return Compacted::Kept(Counts {
-            types: kept_types,
-            constants: kept_constants,
-            overrides: kept_overrides,
-            globals: kept_globals,
-            expressions: kept_expressions,
-            members: members.len() as u32,
-            components: components.len() as u32,
-        });
+    // Where nothing is lost the areas stay as they are.
+    let whole = Counts {
+        types: kept_types,
+        constants: kept_constants,
+        overrides: kept_overrides,
+        globals: kept_globals,
+        expressions: kept_expressions,
+        members: members.len() as u32,
+        components: components.len() as u32,
+    };
+    if keep::all_kept(z, whole) {
+        return Compacted::Kept(whole);
     }
     let kept_members = adjust::adjust_pool(TYPES, types, members, type_map);
     let kept_components = adjust::adjust_pool(EXPRESSIONS, expressions, components, expression_map);

@@ -4,36 +4,35 @@ use mathlib.Core.Path.{_≡_, refl, sym, ap, subst, _∙_}
 use mathlib.Core.Bool.{Bool, true, false, _&&_, _||_, not, cond}
 use mathlib.Core.Logic.{_⊎_, inr, ⊎-elim}
 use mathlib.Core.List.{List, [], _∷_}
-use Prim.Native.Nat.{ℕ, zero, suc, _+_, _-_, _*_, _≤_, _<_, min}
+use Prim.Native.Nat.{ℕ, zero, suc, _+_, _-_, _≤_, _<_, min}
 use native.Mathlib.Decide.{ℕ-discrete}
 use native.Mathlib.Nat.{le-refl, le-trans, not-suc-le-zero}
 use native.Mathlib.Numerals.{add-one}
 use native.Mathlib.Omega.{arith}
 use lib.Dec.{T, eqb, ltb, lt→ltb, ltb→lt}
-use lib.ListN.{length, getD}
+use lib.ListN.{length}
 use borrow.Author.Tests.{lt-ltb, le-ltb, eqb-true, ne-eqb, eq-eqb}
 use Rattle.definitions.specs.Lists.{all, always, total}
-use Rattle.definitions.specs.Areas.{Words, Areas, Arena, types, expressions, areasOf, numbered, words, word, size, width, pool, mentionCount, mentionWidth}
-use Rattle.definitions.specs.Slots.{body}
+use Rattle.definitions.specs.Areas.{Words, Areas, Arena, types, expressions, numbered, word, size, pool, mentionCount, mentionWord}
+use Rattle.definitions.specs.Slots.{body, layout}
 use Rattle.definitions.specs.References.{span, run}
 use Rattle.definitions.specs.Refusals.{accepted, refused, every, runsBefore, shapedAt, heldAt}
 use Rattle.definitions.specs.Order.{wellOrdered}
 use Rattle.definitions.proofs.Least.{and-left, and-right}
 use Rattle.definitions.proofs.Least.{both}
-use Rattle.slots.specs.Codes.{wordsFrom, spanIn, runIn}
 use Rattle.slots.proofs.Decision.{at-keys, in-range}
 use Rattle.rules.specs.declared.Limits.{Limits}
 use Rattle.rules.specs.declared.Run.{Run}
 use Rattle.rules.specs.declared.Rule.{Rule}
 use Rattle.rules.specs.declared.Rule.the-variants.{Shaped, Held, Ordered}
-use Rattle.arena.specs.Sizes.{sizesOf}
+use Rattle.arena.specs.Sizes.{sizesOf, sizeIn}
 use Rattle.arena.specs.declared.sizes.Sizes.{Sizes}
-use Rattle.rules.specs.Rules.{sizeIn, within, goodBy, leading}
+use Rattle.rules.specs.Rules.{within, goodBy, leading}
 use Rattle.rules.proofs.Laws.{size-in, leading-le}
 use Rattle.rules.proofs.AtOnce.{Enough, good-keeps, good-kind}
 use Rattle.faults.specs.Checking.{Measured, most, limitsAt, boundsAt, looksAt, okAt, carriedAt, carriedTo, placesIn, placesAt, ownerOf, ok4, inTurn, scanArea, Passed, Used}
 use Rattle.faults.proofs.Scans.{all-accepted, turns-accepted}
-use Rattle.faults.proofs.Arenas.{five, pools, words-at, start, run-at, room-le}
+use Rattle.faults.proofs.Arenas.{room-le}
 use Rattle.faults.proofs.Tests.{looks-five, seven-looks, records, looks-there, pool-four, mention-four-six, record-four, record-six, record-seven, kind-other, mention-area, mention-handle}
 use Rattle.faults.proofs.Carries.{nothing, no-leading, handed-on, leads, carried-leads}
 use Rattle.faults.proofs.Records.{keeps, shaped-record, held-record, ordered-record}
@@ -95,39 +94,29 @@ module _ (s : Areas) (m : Measured s) (area i : ℕ) (few : area < 5) (z : Sizes
   abbrev own : Arena
   own = numbered area
 
-  module _ (fit : (k : ℕ) → getD (words s own) k 0 < most) {ws ps : Words} (e : ws ≡ words (five s) own) (t : ps ≡ pool (pools s) own) {w : ℕ} (q : w ≡ width own)
-      {n sum before : ℕ} (p : n ≡ spanIn own (wordsFrom ws (i * w))) (u : sum ≡ min (runsBefore s own i) most)
+  module _ {sum n room before : ℕ} (u : sum ≡ min (runsBefore s own i) most) (p : n ≡ span s own i) (t : room ≡ length (pool s own))
       (lead : record { sum = 0; types = before } ≡ carriedAt s 7 area i) where
     abbrev runs : Run
-    runs = record { sum = sum; span = n; room = length ps }
+    runs = record { sum = sum; span = n; room = room }
 
     abbrev its : Limits
     its = limitsAt area i before z runs
 
-    module _ (good : T (every (goodBy (s .constants) (s .overrides) its) (wordsFrom ws (i * w)) 0 (body own (wordsFrom ws (i * w)))))
-        (below : T (all (λ x. ltb x i) (runIn own (wordsFrom ws (i * w)) ps))) where
-      good-words : T (every (goodBy (s .constants) (s .overrides) its) (word s own i) 0 (body own (word s own i)))
-      good-words = subst (λ f. T (every (goodBy (s .constants) (s .overrides) its) f 0 (body own f))) (start s own i e q) good
-
-      run-below : T (all (λ x. ltb x i) (run s own i))
-      run-below = subst (λ l. T (all (λ x. ltb x i) l)) (run-at s own i e q t refl) below
-
-      kept : (rule : Rule) → Enough its rule → T (keeps s rule own i (words s own))
-      unfolding word
-      kept rule h = good-keeps (s .constants) (s .overrides) (s .globals) its rule h own (word s own i) good-words
+    module _ (good : T (every (goodBy s its) (word s own i) 0 (body own (word s own i)))) (below : T (all (λ x. ltb x i) (run s own i))) where
+      kept : (rule : Rule) → Enough its rule → T (keeps s rule own i)
+      unfolding layout
+      kept rule h = good-keeps s its rule h own (word s own i) good
 
       four : T (shapedAt s own i)
       unfolding limitsAt
-      four =
-          let h : keeps s (Shaped runs) own i ws ≡ shapedAt s own i = shaped-record s own i fit e t q p u refl in
-          subst T h (subst (λ v. T (keeps s (Shaped runs) own i v)) (sym (words-at s own i e)) (kept (Shaped runs) refl))
+      four = subst T (shaped-record s own i m runs u p t) (kept (Shaped runs) refl)
 
       five-kind : area ≡ 4 → true ≡ okAt s 5 area i
-      unfolding word words numbered
+      unfolding numbered
       five-kind a = subst (λ x. true ≡ okAt s 5 x i) (sym a) (rw a at go)
         where
           go : true ≡ okAt s 5 area i
-          go = let k = good-kind (s .constants) (s .overrides) (s .globals) its (word s expressions i) (subst (λ x. T (every (goodBy (s .constants) (s .overrides) its) (word s (numbered x) i) 0 (body (numbered x) (word s (numbered x) i)))) a good-words) in
+          go = let k = good-kind s its (word s expressions i) (subst (λ x. T (every (goodBy s its) (word s (numbered x) i) 0 (body (numbered x) (word s (numbered x) i)))) a good) in
               sym (ap not (ne-eqb _ 27 (k .1))) ∙ kind-other s 5 area i refl refl (k .0)
 
       leads-by : (o : (area ≡ 0) ⊎ (area ≡ 4)) → (area ≡ 0) ⊎ ((area ≡ 4) × (before ≡ leading s i 0 (size s types)))
@@ -136,14 +125,14 @@ module _ (s : Areas) (m : Measured s) (area i : ℕ) (few : area < 5) (z : Sizes
       six : T (heldAt s own i)
       six =
           subst T (held-record s own i z ez (sizeIn z own) refl)
-          (both (keeps s (Held z) own i (words s own)) (all (λ x. ltb x (sizeIn z own)) (run s own i))
+          (both (keeps s (Held z) own i) (all (λ x. ltb x (sizeIn z own)) (run s own i))
           (kept (Held z) (enough-held i before z _ area few there (λ a. ⊎-elim (λ b. absurd (omega arith)) (λ b. rw (b .1, ez) (leading-le s i (size s types))) (leads-by (inr a)))))
-          (all-raised i (sizeIn z own) (omega arith) (run s own i) run-below))
+          (all-raised i (sizeIn z own) (omega arith) (run s own i) below))
 
       seven : (area ≡ 0) ⊎ (area ≡ 4) → T (wellOrdered s own i)
       seven o =
           subst T (ordered-record s i (m .whole) area before (size s types) refl (leads-by o) (boundsAt area i before (size s types)) refl)
-          (both (keeps s (Ordered _) own i (words s own)) (all (λ x. ltb x i) (run s own i)) (kept (Ordered (boundsAt area i before (size s types))) (enough-ordered i before z _ (size s types) area o)) run-below)
+          (both (keeps s (Ordered _) own i) (all (λ x. ltb x i) (run s own i)) (kept (Ordered (boundsAt area i before (size s types))) (enough-ordered i before z _ (size s types) area o)) below)
 
       -- it is good
       pub passed : Good s area i
@@ -164,15 +153,14 @@ module _ (s : Areas) (m : Measured s) (area i : ℕ) (few : area < 5) (z : Sizes
           is7 : Is 7
           is7 x = sym (record-seven s 7 area i refl (sym (is-true (wellOrdered s own i) (seven (seven-looks 7 area refl x)))))
 
-    -- as the code answers
-    pub passed-by : {l : Limits} {r : Bool} → l ≡ its
-        → r ≡ (every (goodBy (s .constants) (s .overrides) l) (wordsFrom ws (i * w)) 0 (body own (wordsFrom ws (i * w))) && all (λ x. ltb x i) (runIn own (wordsFrom ws (i * w)) ps))
-        → r ≡ true → Good s area i
-    passed-by {l} h x y =
-        let g = every (goodBy (s .constants) (s .overrides) l) (wordsFrom ws (i * w)) 0 (body own (wordsFrom ws (i * w))) in
-        let b = all (λ x. ltb x i) (runIn own (wordsFrom ws (i * w)) ps) in
-        let t : T (g && b) = subst T (sym y ∙ x) tt in
-        passed (subst (λ l. T (every (goodBy (s .constants) (s .overrides) l) (wordsFrom ws (i * w)) 0 (body own (wordsFrom ws (i * w))))) h (and-left g b t)) (and-right g b t)
+    -- as the code answers, of the words and the run that it reads
+    pub passed-by : {l : Limits} {f : ℕ → ℕ} {rs : Words} {r : Bool} → l ≡ its → f ≡ word s own i → rs ≡ run s own i
+        → r ≡ (every (goodBy s l) f 0 (body own f) && all (λ x. ltb x i) rs) → r ≡ true → Good s area i
+    passed-by h e q x y =
+        let g = every (goodBy s its) (word s own i) 0 (body own (word s own i)) in
+        let b = all (λ x. ltb x i) (run s own i) in
+        let v : T (g && b) = subst T (sym y ∙ x ∙ (λ j. every (goodBy s (h j)) (e j) 0 (body own (e j)) && all (λ x. ltb x i) (q j))) tt in
+        passed (and-left g b v) (and-right g b v)
 
 -- ---- what is carried along
 
@@ -193,14 +181,14 @@ module _ (s : Areas) where
 
   -- the leading types
   pub leading-next : (area i : ℕ) {before v k : ℕ} → k ≡ size s types → record { sum = 0; types = before } ≡ carriedTo s 7 area i
-      → v ≡ cond (eqb area 4) (leading (areasOf (s .types) [] (s .overrides) [] [] [] [] []) i before (k - before)) before
+      → v ≡ cond (eqb area 4) (leading s i before (k - before)) before
       → record { sum = 0; types = v } ≡ carriedAt s 7 area i
   leading-next area i {before} {v} {k} p q e = elim (ℕ-discrete area 4) [
     | yes a ↦
         leads s 7 area i v k (record { sum = 0; types = before }) refl a p q
-        (e ∙ ap (λ b. cond b (leading (areasOf (s .types) [] (s .overrides) [] [] [] [] []) i before (k - before)) before) (eq-eqb area 4 a))
+        (e ∙ ap (λ b. cond b (leading s i before (k - before)) before) (eq-eqb area 4 a))
     | no a ↦
-        ap (λ t. record { sum = 0; types = t }) (e ∙ ap (λ b. cond b (leading (areasOf (s .types) [] (s .overrides) [] [] [] [] []) i before (k - before)) before) (ne-eqb area 4 a))
+        ap (λ t. record { sum = 0; types = t }) (e ∙ ap (λ b. cond b (leading s i before (k - before)) before) (ne-eqb area 4 a))
         ∙ q ∙ sym (none-carried area i a) ∙ no-leading s 7 area i refl a
   ]
 
@@ -250,8 +238,7 @@ MentionGood s i = (okAt s 4 7 i ≡ true) × (okAt s 6 7 i ≡ true)
 
 module _ (s : Areas) where
   -- one more
-  pub mention-on : (i : ℕ) {w h k : ℕ} {z : Sizes} → ((j : ℕ) → j < i → MentionGood s j) → w ≡ getD (s .mentions) (i * mentionWidth + 0) 0
-      → h ≡ getD (s .mentions) (i * mentionWidth + 1) 0 → z ≡ sizesOf s → k ≡ sizeIn z (numbered w) → ltb w 5 ≡ true → ltb h k ≡ true
+  pub mention-on : (i : ℕ) {w h k : ℕ} {z : Sizes} → ((j : ℕ) → j < i → MentionGood s j) → w ≡ mentionWord s i 0 → h ≡ mentionWord s i 1 → z ≡ sizesOf s → k ≡ sizeIn z (numbered w) → ltb w 5 ≡ true → ltb h k ≡ true
       → (j : ℕ) → j < i + 1 → MentionGood s j
   mention-on i {w} {h} {k} {z} f e q ez p x y j l = elim (ℕ-discrete j i) [
     | yes r ↦ subst (MentionGood s) (sym r) (sym (mention-area s 4 i w e refl) ∙ x, sym (mention-handle s 6 i w e z h k ez refl q p) ∙ y)

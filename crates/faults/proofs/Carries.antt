@@ -1,20 +1,19 @@
 -- What is carried from record to record: the counts before it under number 4, the leading types under 7.
 -- Assumes nothing.
-use mathlib.Core.Path.{_≡_, refl, sym, ap, ap₂}
+use mathlib.Core.Path.{_≡_, refl, sym, ap}
 use mathlib.Core.Bool.{Bool, true, false, _&&_, cond}
 use mathlib.Core.Logic.{_⊎_, inl, inr, ⊎-elim}
-use mathlib.Core.List.{[]}
 use Prim.Native.Nat.{ℕ, zero, suc, _+_, _-_, _≤_, _<_, min}
 use native.Mathlib.Numerals.{add-one}
 use native.Mathlib.Omega.{arith}
-use lib.Dec.{eqb, ltb, leb}
+use lib.Dec.{eqb, ltb}
 use borrow.Author.Tests.{lt-ltb, le-ltb, ne-eqb}
 use Rattle.definitions.specs.Lists.{total, always}
-use Rattle.definitions.specs.Areas.{Areas, types, areasOf, numbered, size}
+use Rattle.definitions.specs.Areas.{Areas, types, numbered, size}
 use Rattle.definitions.specs.References.{span}
 use Rattle.definitions.specs.Refusals.{runsBefore}
 use Rattle.rules.specs.Rules.{leading}
-use Rattle.rules.proofs.Laws.{sized-part, leading-on}
+use Rattle.rules.proofs.Laws.{leading-on}
 use Rattle.faults.specs.declared.places.Carried.{Carried}
 use Rattle.faults.specs.Checking.{most, carriedAt, carriedTo}
 
@@ -75,21 +74,15 @@ module _ (s : Areas) where
       go : (r d : ℕ) → min (min r most + d) most ≡ min (r + d) most
       go r d = omega arith
 
-  -- the types and overrides alone decide which types lead
-  leading-part : (e t n : ℕ) → leading (areasOf (s .types) [] (s .overrides) [] [] [] [] []) e t n ≡ leading s e t n
-  unfolding leading
-  leading-part e t zero = refl
-  leading-part e t (suc n) = ap₂ (λ b r. cond (leb b e) r t) (sym (sized-part s t)) (leading-part e (suc t) n)
-
   -- the types that lead for an expression, from those that lead for the one before
   pub leads : (n a i v m : ℕ) (before : Carried) → n ≡ 7 → a ≡ 4 → m ≡ size s types → before ≡ carriedTo s n a i
-      → v ≡ leading (areasOf (s .types) [] (s .overrides) [] [] [] [] []) i (before .types) (m - before .types) → record { sum = 0; types = v } ≡ carriedAt s n a i
+      → v ≡ leading s i (before .types) (m - before .types) → record { sum = 0; types = v } ≡ carriedAt s n a i
   unfolding carriedTo carriedAt
   leads n a zero v m before e l k p q =
       let z : size s types - 0 ≡ size s types = omega arith in
-      rw (q, leading-part, p, k, z, e, l)
+      rw (q, p, k, z, e, l)
   leads n a (suc i) v m before e l k p q =
-      rw (q, leading-part, p, k, e, l) (ap (λ t. record { sum = 0; types = t }) (sym (leading-on s i (suc i) (size s types) (omega arith))))
+      rw (q, p, k, e, l) (ap (λ t. record { sum = 0; types = t }) (sym (leading-on s i (suc i) (size s types) (omega arith))))
 
   -- what is carried to a record serves its test
   pub carried-counts : (n a i : ℕ) {v : Carried} → v ≡ carriedAt s n a i → n ≡ 4 → a < 5 → v .sum ≡ min (runsBefore s (numbered a) i) most

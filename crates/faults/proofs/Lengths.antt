@@ -8,7 +8,7 @@ use lib.Dec.{eqb, ltb, leb, ltb→lt}
 use lib.ListN.{getD}
 use borrow.Author.Tests.{ne-eqb}
 use Rattle.definitions.specs.Lists.{all}
-use Rattle.definitions.specs.Areas.{width, widths, limits}
+use Rattle.definitions.specs.Areas.{Areas, width, widths, limits, lengthOf, recordsOf}
 use Rattle.definitions.proofs.Judged.{all-at}
 use Rattle.faults.specs.Checking.{areaOk, areasAt}
 
@@ -38,15 +38,15 @@ pub wide : (a : ℕ) → a < 8 → 0 < getD widths a 1
 unfolding widths width all
 wide a l = ltb→lt 0 _ (all-at (ltb 0) widths 1 tt a l)
 
-module _ (lengths maps : List ℕ) (n a w : ℕ) (e : w ≡ getD widths a 1) where
-  pub whole : n ≡ 1 → eqb (getD lengths a 0 % w) 0 ≡ areaOk lengths maps n a
+module _ (s : Areas) (maps : List ℕ) (n a l w : ℕ) (p : l ≡ lengthOf s a) (e : w ≡ getD widths a 1) where
+  pub whole : n ≡ 1 → eqb (l % w) 0 ≡ areaOk s maps n a
   unfolding areaOk
-  whole q = rw (e, q)
+  whole q = rw (p, e, q)
 
-  pub few : (m : ℕ) → n ≡ 2 → m ≡ getD limits a 0 → leb (getD lengths a 0 / w) m ≡ areaOk lengths maps n a
-  unfolding areaOk
-  few m q l = rw (e, q, l)
+  pub few : (m : ℕ) → n ≡ 2 → m ≡ getD limits a 0 → leb (l / w) m ≡ areaOk s maps n a
+  unfolding areaOk recordsOf
+  few m q t = rw (p, e, q, t)
 
-  pub roomy : (n ≡ 1 → ⊥) → (n ≡ 2 → ⊥) → leb (getD lengths a 0 / w) (getD maps a 0) ≡ areaOk lengths maps n a
-  unfolding areaOk
-  roomy p q = rw (e, ne-eqb n 1 p, ne-eqb n 2 q)
+  pub roomy : (n ≡ 1 → ⊥) → (n ≡ 2 → ⊥) → leb (l / w) (getD maps a 0) ≡ areaOk s maps n a
+  unfolding areaOk recordsOf
+  roomy q t = rw (p, e, ne-eqb n 1 q, ne-eqb n 2 t)

@@ -2,16 +2,16 @@
 -- Assumes nothing.
 use mathlib.Core.Path.{_≡_, refl, sym, ap, subst, _∙_}
 use mathlib.Core.Bool.{cond}
-use mathlib.Core.List.{List, [], _∷_}
+use mathlib.Core.List.{List}
 use Prim.Native.Nat.{ℕ, _+_, _-_, _≤_, _<_}
 use native.Mathlib.Decide.{ℕ-discrete}
 use native.Mathlib.Nat.{le-trans}
 use native.Mathlib.Omega.{arith}
 use lib.Dec.{T, ltb, leb, eqb→eq, leb→le}
-use lib.ListN.{length, getD}
+use lib.ListN.{getD}
 use borrow.Author.Tests.{lt-ltb, le-ltb}
 use Rattle.definitions.specs.Lists.{all}
-use Rattle.definitions.specs.Areas.{Areas, areaNumber, numbered, widths, limits, lengthOf, allWords, recordsOf}
+use Rattle.definitions.specs.Areas.{Areas, areaNumber, numbered, widths, limits, lengthOf, allWords}
 use Rattle.definitions.specs.Refusals.{Verdict, accepted, passes, reported, scan, scanAreas, scanRecords, scanMentions, poolUsed, check1, check2, check3, check4, check5, check6, check7, check}
 use Rattle.definitions.proofs.Judged.{all-at}
 use Rattle.definitions.proofs.Accepted.{areas-all}
@@ -20,12 +20,6 @@ use Rattle.faults.specs.declared.Verdict as code
 use Rattle.faults.specs.declared.Verdict.the-variants.{Accepted, Refused}
 use Rattle.faults.specs.Checking.{reportOf, verdictOf, areaOk, areasAt, inTurn, scanArea, okAt, ok4, ok6, ownerOf, looksAt, placesIn, Measured}
 use Rattle.faults.proofs.Scans.{first-on, first-stop, turn-open, turn-end, turns-accepted, none, also, skipped, last}
-
--- the lengths of the eight areas
-abbrev pub lengthsOf : Areas → List ℕ
-lengthsOf s =
-    length (s .types) ∷ length (s .constants) ∷ length (s .overrides) ∷ length (s .globals) ∷ length (s .expressions)
-    ∷ length (s .members) ∷ length (s .components) ∷ length (s .mentions) ∷ []
 
 -- opens the places of every number
 opened : ℕ
@@ -44,18 +38,18 @@ passing e = subst (λ v. T (passes v)) (sym e) tt
 module _ (s : Areas) (maps : List ℕ) where
   -- the verdict under a number from 1 to 7
   unfoldable pub stage : ℕ → Verdict
-  stage n = cond (ltb n 4) (scanAreas n (areaOk (lengthsOf s) maps n) (areasAt n)) (inTurn (scanArea s n) 0 8)
+  stage n = cond (ltb n 4) (scanAreas n (areaOk s maps n) (areasAt n)) (inTurn (scanArea s n) 0 8)
 
   stage1 : check1 s ≡ stage 1
-  unfolding stage check1 scanAreas scan areaOk areasAt lengthOf allWords
+  unfolding stage check1 areaOk areasAt
   stage1 = refl
 
   stage2 : check2 s ≡ stage 2
-  unfolding stage check2 scanAreas scan areaOk areasAt recordsOf lengthOf allWords
+  unfolding stage check2 areaOk areasAt
   stage2 = refl
 
   stage3 : check3 s maps ≡ stage 3
-  unfolding stage check3 scanAreas scan areaOk areasAt recordsOf lengthOf allWords
+  unfolding stage check3 areaOk areasAt
   stage3 = refl
 
   stage4 : check4 s ≡ stage 4
@@ -82,7 +76,7 @@ module _ (s : Areas) (maps : List ℕ) where
       (also _ _ (also _ _ (also _ _ (also _ _ (also _ _ (also _ _ (also _ _ none)))))))
 
   -- a number below 4 goes by the lengths
-  pub by-lengths : (n : ℕ) {v : Verdict} → n < 4 → v ≡ scanAreas n (areaOk (lengthsOf s) maps n) (areasAt n) → v ≡ stage n
+  pub by-lengths : (n : ℕ) {v : Verdict} → n < 4 → v ≡ scanAreas n (areaOk s maps n) (areasAt n) → v ≡ stage n
   unfolding stage
   by-lengths n l e = rw (lt-ltb n 4 l) e
 

@@ -4,28 +4,27 @@ use mathlib.Core.Path.{_≡_, refl, sym, ap, ap₂, _∙_}
 use mathlib.Core.Bool.{Bool, true, false, _&&_}
 use mathlib.Core.Logic.{_⊎_, ⊎-elim}
 use mathlib.Core.List.{List, [], _∷_, _++_, map}
-use Prim.Native.Nat.{ℕ, suc, _+_, _*_, _%_, _<_, min}
+use Prim.Native.Nat.{ℕ, suc, _%_, min}
+use native.Mathlib.Omega.{arith}
 use lib.Dec.{ltb}
-use lib.ListN.{length, getD}
+use lib.ListN.{length}
 use Rattle.definitions.specs.Lists.{all}
-use Rattle.definitions.specs.Areas.{Words, Areas, Arena, Elem, at, types, constants, overrides, globals, expressions, numbered, words, wordOf, word, width, pool, size}
-use Rattle.definitions.specs.Slots.{Slot, slots, layout}
+use Rattle.definitions.specs.Areas.{Words, Areas, Arena, Elem, at, types, constants, overrides, globals, expressions, numbered, word, width, pool, size}
+use Rattle.definitions.specs.Slots.{Slot, layout}
 use Rattle.definitions.specs.References.{span, run, namedFrom, references}
 use Rattle.definitions.specs.Order.{behind, withBehind, later, wellOrdered}
 use Rattle.definitions.specs.Refusals.{every, runsBefore, shapedAt, heldAt}
-use Rattle.slots.specs.Codes.{wordsFrom, spanIn, runIn}
 use Rattle.slots.proofs.Decision.{at-keys}
-use Rattle.arena.specs.Sizes.{sizesOf}
+use Rattle.arena.specs.Sizes.{sizesOf, sizeIn}
 use Rattle.arena.specs.declared.sizes.Sizes.{Sizes}
 use Rattle.rules.specs.declared.Bounds.{Bounds}
+use Rattle.rules.specs.declared.Run.{Run}
 use Rattle.rules.specs.declared.Rule.{Rule}
 use Rattle.rules.specs.declared.Rule.the-variants.{Shaped, Held, Ordered}
-use Rattle.rules.specs.Rules.{sizeIn, heldBy, within, asked, leading}
+use Rattle.rules.specs.Rules.{heldBy, within, asked, leading}
 use Rattle.rules.proofs.Laws.{held-by, shaped-by, ordered-list, leading-dep}
-use Rattle.slots.specs.Part.{part}
-use Rattle.slots.proofs.Laws.{behind-part}
-use Rattle.faults.specs.Checking.{boundsAt, most}
-use Rattle.faults.proofs.Arenas.{five, pools, words-at, span-at, run-at, room-at}
+use Rattle.faults.specs.Checking.{Measured, boundsAt, most}
+use Rattle.faults.proofs.Arenas.{room-le}
 use Rattle.faults.proofs.Tests.{inside-by}
 
 -- two tests that agree on the words of a record
@@ -50,43 +49,37 @@ all-more p (x ∷ l) m n b e = ap (λ r. p x && r) (all-more p l m n b e) ∙ sy
     assoc true b c = refl
     assoc false b c = refl
 
--- what `rules` answers of the words of record i, given the words of its arena
-abbrev pub keeps : Areas → Rule → Arena → ℕ → Words → Bool
-keeps s rule a i ws = every (asked (s .constants) (s .overrides) (s .globals) rule) (wordOf ws a i) 0 (slots a (wordOf ws a i))
+-- what `rules` answers of the words of record i
+abbrev pub keeps : Areas → Rule → Arena → ℕ → Bool
+keeps s rule a i = every (asked s rule) (word s a i) 0 (layout s a i)
 
 -- the words of a record keep a rule, and its run lies below a bound
 abbrev pub Asks : Areas → Rule → ℕ → Arena → ℕ → Bool → Type 0
-Asks s rule n a i v = (keeps s rule a i (words s a) && all (λ w. ltb w n) (run s a i)) ≡ v
+Asks s rule n a i v = (keeps s rule a i && all (λ w. ltb w n) (run s a i)) ≡ v
 
 module _ (s : Areas) (a : Arena) (i : ℕ) where
   -- number 4
-  pub shaped-record : {ws ps : Words} {w n sum : ℕ} {r : Bool} → ((k : ℕ) → getD (words s a) k 0 < most) → ws ≡ words (five s) a → ps ≡ pool (pools s) a → w ≡ width a
-      → n ≡ spanIn a (wordsFrom ws (i * w)) → sum ≡ min (runsBefore s a i) most
-      → r ≡ keeps s (Shaped (record { sum = sum; span = n; room = length ps })) a i ws → r ≡ shapedAt s a i
-  unfolding shapedAt layout word asked
-  shaped-record f e t q p u k =
-      k ∙ ap (keeps s (Shaped _) a i) (words-at s a i e)
-      ∙ every-same _ _ (word s a i) (λ l k. sym (shaped-by s a i _ u (span-at s a i e q p) (room-at s a t) l (word s a i k) (f (i * width a + k)))) 0 (layout s a i)
+  pub shaped-record : Measured s → (r : Run) → r .sum ≡ min (runsBefore s a i) most → r .span ≡ span s a i → r .room ≡ length (pool s a)
+      → keeps s (Shaped r) a i ≡ shapedAt s a i
+  unfolding shapedAt asked
+  shaped-record m r p q e =
+      every-same _ _ (word s a i) (λ l k. sym (shaped-by s a i r (omega (arith, room-le s m a)) p q e l (word s a i k))) 0 (layout s a i)
 
   -- number 6
   pub held-record : (z : Sizes) → z ≡ sizesOf s → (n : ℕ) → n ≡ sizeIn z a → Asks s (Held z) n a i (heldAt s a i)
-  unfolding heldAt layout word asked
+  unfolding heldAt asked
   held-record z q n p =
       ap₂ _&&_
       (every-same _ _ (word s a i) (λ l k. ap (λ y. heldBy (sizeIn y) l (word s a i k)) q ∙ sym (held-by s l (word s a i k))) 0 (layout s a i))
       (all-same _ _ (λ w. ap (ltb w) p ∙ sym (inside-by s z q a w)) (run s a i))
 
   -- the code asks the words first, and the run where they keep the rule
-  module _ (rule : Rule) (n : ℕ) {v : Bool} (law : Asks s rule n a i v) {ws : Words} (e : ws ≡ words (five s) a) {r : Bool} (k : r ≡ keeps s rule a i ws) where
-    first : keeps s rule a i (words s a) ≡ r
-    first = sym (k ∙ ap (keeps s rule a i) (words-at s a i e))
-
+  module _ (rule : Rule) (n : ℕ) {v : Bool} (law : Asks s rule n a i v) {r : Bool} (k : r ≡ keeps s rule a i) where
     pub words-fail : r ≡ false → false ≡ v
-    words-fail q = ap (λ b. b && all (λ w. ltb w n) (run s a i)) (sym (first ∙ q)) ∙ law
+    words-fail q = ap (λ b. b && all (λ w. ltb w n) (run s a i)) (sym q ∙ k) ∙ law
 
-    pub run-decides : r ≡ true → {w : ℕ} → w ≡ width a → {ps l : Words} → ps ≡ pool (pools s) a → l ≡ runIn a (wordsFrom ws (i * w)) ps
-        → {x : Bool} → x ≡ all (λ y. ltb y n) l → x ≡ v
-    run-decides q u t p z = z ∙ ap (all (λ y. ltb y n)) (run-at s a i e u t p) ∙ ap (λ b. b && all (λ w. ltb w n) (run s a i)) (sym (first ∙ q)) ∙ law
+    pub run-decides : r ≡ true → {l : Words} → l ≡ run s a i → {x : Bool} → x ≡ all (λ y. ltb y n) l → x ≡ v
+    run-decides q p z = z ∙ ap₂ (λ b l. b && all (λ w. ltb w n) l) (sym q ∙ k) p ∙ law
 
 -- a run of types or expressions has nothing behind it
 module _ (p : Elem → Bool) (q : Areas) (a : Arena) (i : ℕ) (own : (w : ℕ) → p (at a w) ≡ ltb w i) (alone : (w : ℕ) → behind q (at a w) ≡ []) where
@@ -102,22 +95,18 @@ module _ (p : Elem → Bool) (q : Areas) (a : Arena) (i : ℕ) (own : (w : ℕ) 
 
 module _ (s : Areas) (i : ℕ) where
   -- number 7, by bounds within which lies what the record comes later than
-  ordered-by : (a : Arena) (b : Bounds) → ((y : Elem) → within b y ≡ later s (at a i) y) → ((w : ℕ) → within b (at a w) ≡ ltb w i) → ((q : Areas) (w : ℕ) → behind q (at a w) ≡ [])
+  ordered-by : (a : Arena) (b : Bounds) → ((y : Elem) → within b y ≡ later s (at a i) y) → ((w : ℕ) → within b (at a w) ≡ ltb w i) → ((w : ℕ) → behind s (at a w) ≡ [])
       → Asks s (Ordered b) i a i (wellOrdered s a i)
-  unfolding wellOrdered references layout word asked
+  unfolding wellOrdered references asked
   ordered-by a b later-all own alone =
-      ap (λ v. v && all (λ w. ltb w i) (run s a i)) (sym (ordered-list (within b) q (word s a i) 0 (layout s a i)))
-      ∙ sym (all-named (within b) q a i own (alone q) (namedFrom (word s a i) 0 (layout s a i)) (run s a i))
-      ∙ ap (all (within b)) (sym (behind-part s (references s (at a i))))
+      ap (λ v. v && all (λ w. ltb w i) (run s a i)) (sym (ordered-list (within b) s (word s a i) 0 (layout s a i)))
+      ∙ sym (all-named (within b) s a i own alone (namedFrom (word s a i) 0 (layout s a i)) (run s a i))
       ∙ all-same (within b) (later s (at a i)) later-all (withBehind s (references s (at a i)))
-    where
-      q : Areas
-      q = part (s .constants) (s .overrides) (s .globals)
 
   -- of a type: older types
   ordered-type : (before n : ℕ) → Asks s (Ordered (boundsAt 0 i before n)) i types i (wellOrdered s types i)
   unfolding boundsAt within behind later
-  ordered-type before n = ordered-by types (boundsAt 0 i before n) go (λ w. refl) (λ q w. refl)
+  ordered-type before n = ordered-by types (boundsAt 0 i before n) go (λ w. refl) (λ w. refl)
     where
       go : (y : Elem) → within (boundsAt 0 i before n) y ≡ later s (at types i) y
       go (at types u) = refl
@@ -130,7 +119,7 @@ module _ (s : Areas) (i : ℕ) where
   ordered-expression : length (s .types) % width types ≡ 0 → (before n : ℕ) → before ≡ leading s i 0 n → n ≡ size s types
       → Asks s (Ordered (boundsAt 4 i before n)) i expressions i (wellOrdered s expressions i)
   unfolding boundsAt within behind later
-  ordered-expression whole before n e q = ordered-by expressions (boundsAt 4 i before n) go (λ w. refl) (λ q w. refl)
+  ordered-expression whole before n e q = ordered-by expressions (boundsAt 4 i before n) go (λ w. refl) (λ w. refl)
     where
       go : (y : Elem) → within (boundsAt 4 i before n) y ≡ later s (at expressions i) y
       go (at types u) = rw (e, q) (sym (leading-dep s whole i u))

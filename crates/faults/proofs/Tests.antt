@@ -3,25 +3,21 @@
 use mathlib.Core.Path.{_≡_, refl, sym, ap, subst, _∙_}
 use mathlib.Core.Bool.{Bool, true, false, not, _||_}
 use mathlib.Core.Logic.{_⊎_, inl, inr, ⊎-elim}
-use Prim.Native.Nat.{ℕ, _+_, _*_, _≤_, _<_}
+use Prim.Native.Nat.{ℕ, _≤_, _<_}
 use native.Mathlib.Decide.{ℕ-discrete}
 use native.Mathlib.Nat.{not-suc-le-zero}
 use native.Mathlib.Omega.{arith}
 use lib.Dec.{eqb, ltb}
-use lib.ListN.{length, getD}
+use lib.ListN.{length}
 use borrow.Author.Tests.{lt-ltb, le-ltb, eqb-true, ne-eqb}
-use Rattle.definitions.specs.Lists.{always, total}
-use Rattle.definitions.specs.Areas.{Areas, Arena, at, types, expressions, numbered, words, wordOf, word, size, pool, mentionWidth, mentionWord}
+use Rattle.definitions.specs.Areas.{Areas, Arena, at, expressions, numbered, word, pool, mentionWord}
 use Rattle.definitions.specs.Order.{wellOrdered}
 use Rattle.definitions.specs.Slots.{must}
 use Rattle.definitions.specs.Roots.{mention}
 use Rattle.definitions.specs.Refusals.{runsBefore, shapedAt, ofModule, inside, held, heldAt}
-use Rattle.definitions.proofs.ListLaws.{total-cong}
-use Rattle.slots.specs.Codes.{spanIn}
-use Rattle.slots.proofs.Laws.{span-in}
-use Rattle.arena.specs.Sizes.{sizesOf}
+use Rattle.arena.specs.Sizes.{sizesOf, sizeIn}
 use Rattle.arena.specs.declared.sizes.Sizes.{Sizes}
-use Rattle.rules.specs.Rules.{sizeIn, heldBy}
+use Rattle.rules.specs.Rules.{heldBy}
 use Rattle.rules.proofs.Laws.{held-by}
 use Rattle.faults.specs.Checking.{ok4, ok6, okAt, ownerOf, looksAt, placesIn}
 
@@ -123,36 +119,31 @@ module _ (s : Areas) where
     record-seven e q = rw e q
 
   -- under number 5 its kind
-  module _ (n a i : ℕ) {k : ℕ} (e : n ≡ 5) (q : k ≡ wordOf (s .expressions) expressions i 0) where
+  module _ (n a i : ℕ) {k : ℕ} (e : n ≡ 5) (q : k ≡ word s expressions i 0) where
     pub kind-thirteen : k ≡ 13 → not (eqb k 13) ≡ okAt s n a i
-    unfolding okAt ofModule word words
+    unfolding okAt ofModule
     kind-thirteen p = rw (e, ← q, p)
 
     pub kind-other : (k ≡ 13 → ⊥) → not (eqb k 27) ≡ okAt s n a i
-    unfolding okAt ofModule word words
+    unfolding okAt ofModule
     kind-other p = rw (e, ← q, ne-eqb k 13 p)
-
-  -- the counts of the runs of an arena
-  counted : (b : Arena) (m : ℕ) → total always (λ h. spanIn b (wordOf (words s b) b h)) m ≡ runsBefore s b m
-  unfolding runsBefore word
-  counted b m = total-cong always _ _ m (λ h l t. sym (span-in s b h))
 
   -- a pool
   module _ (n a i : ℕ) {r : Bool} (z : Sizes) (e : z ≡ sizesOf s) (q : n ≡ 4) where
-    pub members-used : a ≡ 5 → r ≡ eqb (total always (λ h. spanIn (numbered 0) (wordOf (s .types) (numbered 0) h)) (z .types)) (length (s .members)) → r ≡ okAt s n a i
-    unfolding okAt ok4 ownerOf numbered words pool
-    members-used p t = t ∙ rw (q, p, e) (ap (λ m. eqb m (length (s .members))) (counted types (size s types)))
+    pub members-used : a ≡ 5 → r ≡ eqb (runsBefore s (numbered 0) (z .types)) (length (pool s (numbered 0))) → r ≡ okAt s n a i
+    unfolding okAt ok4 ownerOf numbered
+    members-used p t = t ∙ rw (q, p, e)
 
-    pub components-used : a ≡ 6 → r ≡ eqb (total always (λ h. spanIn (numbered 4) (wordOf (s .expressions) (numbered 4) h)) (z .expressions)) (length (s .components)) → r ≡ okAt s n a i
-    unfolding okAt ok4 ownerOf numbered words pool
-    components-used p t = t ∙ rw (q, p, e) (ap (λ m. eqb m (length (s .components))) (counted expressions (size s expressions)))
+    pub components-used : a ≡ 6 → r ≡ eqb (runsBefore s (numbered 4) (z .expressions)) (length (pool s (numbered 4))) → r ≡ okAt s n a i
+    unfolding okAt ok4 ownerOf numbered
+    components-used p t = t ∙ rw (q, p, e)
 
   -- a mention
-  module _ (n i w : ℕ) (e : w ≡ getD (s .mentions) (i * mentionWidth + 0) 0) where
+  module _ (n i w : ℕ) (e : w ≡ mentionWord s i 0) where
     pub mention-area : n ≡ 4 → ltb w 5 ≡ okAt s n 7 i
-    unfolding okAt ok4 mentionWord
+    unfolding okAt ok4
     mention-area q = rw (q, e)
 
-    pub mention-handle : (z : Sizes) (h m : ℕ) → z ≡ sizesOf s → n ≡ 6 → h ≡ getD (s .mentions) (i * mentionWidth + 1) 0 → m ≡ sizeIn z (numbered w) → ltb h m ≡ okAt s n 7 i
-    unfolding okAt ok6 mention mentionWord
+    pub mention-handle : (z : Sizes) (h m : ℕ) → z ≡ sizesOf s → n ≡ 6 → h ≡ mentionWord s i 1 → m ≡ sizeIn z (numbered w) → ltb h m ≡ okAt s n 7 i
+    unfolding okAt ok6 mention
     mention-handle z h m r q p t = rw (q, p, t, e) (sym (inside-by z r _ _))

@@ -3,12 +3,12 @@
 use mathlib.Core.Path.{_≡_}
 use mathlib.Core.Bool.{Bool, true, false, _&&_, _||_, cond}
 use mathlib.Core.List.{List, [], _∷_}
-use Prim.Native.Nat.{ℕ, zero, suc, _/_, _%_, _≤_, _<_, min}
+use Prim.Native.Nat.{ℕ, zero, suc, _%_, _≤_, _<_, min}
 use lib.ListN.{length, getD}
 use lib.Dec.{eqb, ltb, leb}
 use Rattle.definitions.specs.Areas as areas
 use Rattle.definitions.specs.Areas.{Areas, types, expressions, numbered, size, pool}
-use Rattle.definitions.specs.Areas.{recordsOf, width, widths, limits, mentionWord}
+use Rattle.definitions.specs.Areas.{lengthOf, recordsOf, width, widths, limits, mentionWord}
 use Rattle.definitions.specs.Order.{wellOrdered}
 use Rattle.definitions.specs.Roots.{mention}
 use Rattle.definitions.specs.Refusals.{accepted, refused, firstOf, scan, runsBefore, shapedAt, heldAt, inside, ofModule}
@@ -19,9 +19,9 @@ use Rattle.faults.specs.declared.places.Carried.{Carried}
 use Rattle.rules.specs.declared.Bounds.{Bounds}
 use Rattle.rules.specs.declared.Limits.{Limits}
 use Rattle.rules.specs.declared.Run.{Run}
-use Rattle.arena.specs.Sizes.{sizesOf}
+use Rattle.arena.specs.Sizes.{sizesOf, sizeIn}
 use Rattle.arena.specs.declared.sizes.Sizes.{Sizes}
-use Rattle.rules.specs.Rules.{sizeIn, leading}
+use Rattle.rules.specs.Rules.{leading}
 
 -- the number and the values of each case of the answer
 abbrev pub reportOf : Verdict → R.Report
@@ -35,12 +35,11 @@ verdictOf (Refused f) = refused (f .number) (f .area) (f .record)
 
 -- ---- numbers 1 to 3, by the areas' lengths
 
--- is the area good under the number ? The areas and the maps are given by their lengths
-unfoldable pub areaOk : List ℕ → List ℕ → ℕ → ℕ → Bool
-areaOk lengths maps n a =
-    cond (eqb n 1) (eqb (getD lengths a 0 % getD widths a 1) 0)
-    (cond (eqb n 2) (leb (getD lengths a 0 / getD widths a 1) (getD limits a 0))
-    (leb (getD lengths a 0 / getD widths a 1) (getD maps a 0)))
+-- is the area good under the number ? The maps are given by their lengths
+unfoldable pub areaOk : Areas → List ℕ → ℕ → ℕ → Bool
+areaOk s maps n a =
+    cond (eqb n 1) (eqb (lengthOf s a % getD widths a 1) 0)
+    (cond (eqb n 2) (leb (recordsOf s a) (getD limits a 0)) (leb (recordsOf s a) (getD maps a 0)))
 
 -- how many areas the number looks at: only arenas have maps
 unfoldable pub areasAt : ℕ → ℕ

@@ -1,14 +1,14 @@
 // Numbers 4 to 7 of a good module in one walk that reads each record once; where it fails, the numbers in turn say why.
 ghost use mathlib.Core.Path.{_≡_};
 ghost use mathlib.Core.Bool.{true, _&&_, cond};
-ghost use mathlib.Core.List.{[]};
 ghost use Prim.Native.Nat.{ℕ, _-_, _≤_, _<_};
 ghost use lib.Dec.{eqb, ltb};
 ghost use Rattle.definitions.specs.Lists.{all};
-ghost use Rattle.definitions.specs.Areas.{areasOf, numbered};
+ghost use Rattle.definitions.specs.Areas.{numbered};
 ghost use Rattle.definitions.specs.Slots.{body};
 ghost use Rattle.definitions.specs.Refusals.{accepted, every};
 ghost use Rattle.slots.specs.Codes.{wordsFrom, spanIn, runIn};
+ghost use Rattle.arena.specs.Lent.{given, areasIn};
 ghost use Rattle.arena.specs.Sizes.{sizesOf};
 ghost use Rattle.rules.specs.Rules.{goodBy, leading};
 ghost use Rattle.faults.specs.Checking.{Measured, limitsAt, Passed, Used, inTurn, scanArea};
@@ -16,6 +16,7 @@ use crate::places;
 use arena::ARENAS;
 use arena::EXPRESSIONS;
 use arena::Mention;
+use arena::Module;
 use arena::Sizes;
 use arena::TYPES;
 use rules::Limits;
@@ -51,13 +52,11 @@ fn limits(area: u32, i: u32, before: u32, z: Sizes, run: Run) -> Limits
 }
 
 // The types with dep below expression i, from those with dep below the one before it; only an expression needs them.
-fn leads(area: u32, i: u32, before: u32, n: u32, types: &[u32], overrides: &[u32]) -> u32
-    ensures { λ r. ⌜ r ≡ cond (eqb area 4)
-        (leading (areasOf (now (types .entry)) [] (now (overrides .entry)) [] [] [] [] []) i before (n - before))
-        before ⌝ }
+fn leads(area: u32, i: u32, before: u32, n: u32, m: &Module) -> u32
+    ensures { λ r. ⌜ r ≡ cond (eqb area 4) (leading (areasIn (given m)) i before (n - before)) before ⌝ }
 {
     if area == EXPRESSIONS {
-        return rules::prefix(types, overrides, before, n, i);
+        return rules::prefix(before, n, i, m);
     }
     before
 }
@@ -70,15 +69,14 @@ fn record_passes(
     ws: &[u32],
     at: usize,
     pool: &[u32],
-    constants: &[u32],
-    overrides: &[u32],
+    m: &Module,
 ) -> bool
     requires { ⌜ l .run .span ≡ spanIn (numbered area) (wordsFrom (now ws) at) ⌝ }
-    ensures { λ r. ⌜ r ≡ (every (goodBy (now (constants .entry)) (now (overrides .entry)) l)
-        (wordsFrom (now (ws .entry)) at) 0 (body (numbered area) (wordsFrom (now (ws .entry)) at))
-        && all (λ w. ltb w i) (runIn (numbered area) (wordsFrom (now (ws .entry)) at) (now (pool .entry)))) ⌝ }
+    ensures { λ r. ⌜ r ≡ (every (goodBy (areasIn (given m)) l)
+        (wordsFrom (given ws) at) 0 (body (numbered area) (wordsFrom (given ws) at))
+        && all (λ w. ltb w i) (runIn (numbered area) (wordsFrom (given ws) at) (given pool))) ⌝ }
 {
-    if !rules::record_good(l, area, ws, at, constants, overrides) {
+    if !rules::record_good(l, area, ws, at, m) {
         return false;
     }
     if l.run.span == 0 {
@@ -88,25 +86,13 @@ fn record_passes(
 }
 
 // Do all records of an arena pass, and do their runs use up its pool ?
-fn arena_passes<'a>(
-    area: u32,
-    z: Sizes,
-    types: &'a [u32],
-    constants: &'a [u32],
-    overrides: &'a [u32],
-    globals: &'a [u32],
-    expressions: &'a [u32],
-    members: &'a [u32],
-    components: &'a [u32],
-    mentions: &'a [u32],
-) -> bool
+fn arena_passes(area: u32, z: Sizes, m: &Module) -> bool
     requires { ⌜ area < 5 ⌝ }
-    requires { ⌜ Measured (areasOf (now (types)) (now (constants)) (now (overrides)) (now (globals)) (now (expressions)) (now (members)) (now (components)) (now (mentions))) ⌝ }
-    requires { ⌜ z ≡ sizesOf (areasOf (now (types)) (now (constants)) (now (overrides)) (now (globals)) (now (expressions)) (now (members)) (now (components)) (now (mentions))) ⌝ }
-    ensures { λ r. ⌜ (r ≡ true → Passed (areasOf (now (types .entry)) (now (constants .entry)) (now (overrides .entry)) (now (globals .entry)) (now (expressions .entry)) (now (members .entry)) (now (components .entry)) (now (mentions .entry))) area × Used (areasOf (now (types .entry)) (now (constants .entry)) (now (overrides .entry)) (now (globals .entry)) (now (expressions .entry)) (now (members .entry)) (now (components .entry)) (now (mentions .entry))) (numbered area)) ⌝ }
+    requires { ⌜ Measured (areasIn (now m)) × (z ≡ sizesOf (areasIn (now m))) ⌝ }
+    ensures { λ r. ⌜ (r ≡ true → Passed (areasIn (given m)) area × Used (areasIn (given m)) (numbered area)) ⌝ }
 {
-    let ws = places::arena_words(area, types, constants, overrides, globals, expressions);
-    let pool = places::pool_words(area, members, components);
+    let ws = slots::arena_words(area, m);
+    let pool = slots::arena_pool(area, m);
     let width = slots::arena_width(area);
     let n = places::own_size(area, z);
     let mut sum = 0;
@@ -116,9 +102,9 @@ fn arena_passes<'a>(
         let at = i as usize * width;
         let span = slots::span(area, ws, at);
         let room = pool.len();
-        before = leads(area, i, before, z.types, types, overrides);
+        before = leads(area, i, before, z.types, m);
         let l = limits(area, i, before, z, Run { sum, span, room });
-        if !record_passes(l, area, i, ws, at, pool, constants, overrides) {
+        if !record_passes(l, area, i, ws, at, pool, m) {
             return false;
         }
         sum = places::run_sum(sum, span);
@@ -128,29 +114,18 @@ fn arena_passes<'a>(
 }
 
 // Do all mentions pass ?
-fn mentions_pass<'a>(
-    z: Sizes,
-    types: &'a [u32],
-    constants: &'a [u32],
-    overrides: &'a [u32],
-    globals: &'a [u32],
-    expressions: &'a [u32],
-    members: &'a [u32],
-    components: &'a [u32],
-    mentions: &'a [u32],
-) -> bool
-    requires { ⌜ Measured (areasOf (now (types)) (now (constants)) (now (overrides)) (now (globals)) (now (expressions)) (now (members)) (now (components)) (now (mentions))) ⌝ }
-    requires { ⌜ z ≡ sizesOf (areasOf (now (types)) (now (constants)) (now (overrides)) (now (globals)) (now (expressions)) (now (members)) (now (components)) (now (mentions))) ⌝ }
-    ensures { λ r. ⌜ (r ≡ true → Passed (areasOf (now (types .entry)) (now (constants .entry)) (now (overrides .entry)) (now (globals .entry)) (now (expressions .entry)) (now (members .entry)) (now (components .entry)) (now (mentions .entry))) 7) ⌝ }
+fn mentions_pass(z: Sizes, m: &Module) -> bool
+    requires { ⌜ Measured (areasIn (now m)) × (z ≡ sizesOf (areasIn (now m))) ⌝ }
+    ensures { λ r. ⌜ (r ≡ true → Passed (areasIn (given m)) 7) ⌝ }
 {
     let n = z.mentions;
     let mut i = 0;
     while i < n {
-        let area = Mention::area(mentions, i);
+        let area = Mention::area(m, i);
         if ARENAS <= area {
             return false;
         }
-        if places::own_size(area, z) <= Mention::handle(mentions, i) {
+        if places::own_size(area, z) <= Mention::handle(m, i) {
             return false;
         }
         i += 1;
@@ -159,47 +134,17 @@ fn mentions_pass<'a>(
 }
 
 // Does the module pass ? Then no number from 4 to 7 has a fault.
-pub fn passes<'a>(
-    types: &'a [u32],
-    constants: &'a [u32],
-    overrides: &'a [u32],
-    globals: &'a [u32],
-    expressions: &'a [u32],
-    members: &'a [u32],
-    components: &'a [u32],
-    mentions: &'a [u32],
-) -> bool
-    requires { ⌜ Measured (areasOf (now (types)) (now (constants)) (now (overrides)) (now (globals)) (now (expressions)) (now (members)) (now (components)) (now (mentions))) ⌝ }
-    ensures { λ r. ⌜ (r ≡ true → (n : ℕ) → 4 ≤ n → n < 8 → inTurn (scanArea (areasOf (now (types .entry)) (now (constants .entry)) (now (overrides .entry)) (now (globals .entry)) (now (expressions .entry)) (now (members .entry)) (now (components .entry)) (now (mentions .entry))) n) 0 8 ≡ accepted) ⌝ }
+pub fn passes(m: &Module) -> bool
+    requires { ⌜ Measured (areasIn (now m)) ⌝ }
+    ensures { λ r. ⌜ (r ≡ true → (n : ℕ) → 4 ≤ n → n < 8 → inTurn (scanArea (areasIn (given m)) n) 0 8 ≡ accepted) ⌝ }
 {
-    let z = Sizes::of(types, constants, overrides, globals, expressions, mentions);
+    let z = Sizes::of(m);
     let mut area = 0;
     while area < ARENAS {
-        if !arena_passes(
-            area,
-            z,
-            types,
-            constants,
-            overrides,
-            globals,
-            expressions,
-            members,
-            components,
-            mentions,
-        ) {
+        if !arena_passes(area, z, m) {
             return false;
         }
         area += 1;
     }
-    mentions_pass(
-        z,
-        types,
-        constants,
-        overrides,
-        globals,
-        expressions,
-        members,
-        components,
-        mentions,
-    )
+    mentions_pass(z, m)
 }

@@ -4,11 +4,12 @@ mod at_once;
 mod places;
 
 ghost use mathlib.Core.Path.{_≡_};
-ghost use mathlib.Core.List.{[], _∷_};
-ghost use lib.ListN.{length};
-ghost use Rattle.definitions.specs.Areas.{areasOf};
 ghost use Rattle.definitions.specs.Refusals.{check, reported};
+ghost use Rattle.definitions.specs.Outcome.{lengths};
+ghost use Rattle.arena.specs.Lent.{given, areas, maps, areasIn};
 ghost use Rattle.faults.specs.Checking.{reportOf};
+use arena::ARENAS;
+use arena::Module;
 
 // Where a module breaks which rule.
 pub struct Fault {
@@ -22,8 +23,33 @@ pub enum Verdict {
     Refused(Fault),
 }
 
-// The verdict on eight areas and five maps of any words: numbers 1 to 7 in turn, the first fault wins.
+// The verdict on a module and the lengths of its maps: numbers 1 to 7 in turn, the first fault wins.
 // A good module is told by one walk over it.
+fn judge(maps: &[usize; ARENAS as usize], m: &Module) -> Verdict
+    ensures { λ r. ⌜ reportOf r ≡ reported (check (areasIn (given m)) (given maps)) ⌝ }
+{
+    let mut number = 1;
+    while number < 4 {
+        let v = areas::first(number, maps, m);
+        if let Verdict::Refused(f) = v {
+            return Verdict::Refused(f);
+        }
+        number += 1;
+    }
+    if at_once::passes(m) {
+        return Verdict::Accepted;
+    }
+    while number < 8 {
+        let v = places::first(number, m);
+        if let Verdict::Refused(f) = v {
+            return Verdict::Refused(f);
+        }
+        number += 1;
+    }
+    Verdict::Accepted
+}
+
+// The verdict on eight areas and five maps of any words.
 pub fn check<'a>(
     types: &'a [u32],
     constants: &'a [u32],
@@ -40,36 +66,10 @@ pub fn check<'a>(
     expression_map: &'a [u32],
 ) -> Verdict
     ensures { λ r. ⌜ reportOf r ≡ reported (check
-        (areasOf (now (types .entry)) (now (constants .entry)) (now (overrides .entry)) (now (globals .entry)) (now (expressions .entry)) (now (members .entry)) (now (components .entry)) (now (mentions .entry)))
-        (length (now («type_map» .entry)) ∷ length (now («constant_map» .entry)) ∷ length (now («override_map» .entry))
-        ∷ length (now («global_map» .entry)) ∷ length (now («expression_map» .entry)) ∷ [])) ⌝ }
+        (areas given types constants overrides globals expressions members components mentions)
+        (lengths (maps given «type_map» «constant_map» «override_map» «global_map» «expression_map»))) ⌝ }
 {
-    let lengths = [
-        types.len(),
-        constants.len(),
-        overrides.len(),
-        globals.len(),
-        expressions.len(),
-        members.len(),
-        components.len(),
-        mentions.len(),
-    ];
-    let maps = [
-        type_map.len(),
-        constant_map.len(),
-        override_map.len(),
-        global_map.len(),
-        expression_map.len(),
-    ];
-    let mut number = 1;
-    while number < 4 {
-        let v = areas::first(number, &lengths, &maps);
-        if let Verdict::Refused(f) = v {
-            return Verdict::Refused(f);
-        }
-        number += 1;
-    }
-    if at_once::passes(
+    let m = [
         types,
         constants,
         overrides,
@@ -78,25 +78,13 @@ pub fn check<'a>(
         members,
         components,
         mentions,
-    ) {
-        return Verdict::Accepted;
-    }
-    while number < 8 {
-        let v = places::first(
-            number,
-            types,
-            constants,
-            overrides,
-            globals,
-            expressions,
-            members,
-            components,
-            mentions,
-        );
-        if let Verdict::Refused(f) = v {
-            return Verdict::Refused(f);
-        }
-        number += 1;
-    }
-    Verdict::Accepted
+    ];
+    let maps = [
+        type_map.len(),
+        constant_map.len(),
+        override_map.len(),
+        global_map.len(),
+        expression_map.len(),
+    ];
+    judge(&maps, &m)
 }

@@ -1,14 +1,15 @@
 // Numbers 4 to 7: nested loops over areas and their places, left at the first fault.
 ghost use mathlib.Core.Path.{_≡_};
 ghost use mathlib.Core.Bool.{true};
-ghost use mathlib.Core.List.{[]};
 ghost use mathlib.Core.Logic.{_⊎_};
 ghost use Prim.Native.Nat.{_+_, _≤_, _<_, min};
-ghost use Rattle.definitions.specs.Areas.{areasOf, numbered, words, pool};
+ghost use Rattle.definitions.specs.Areas.{numbered};
+ghost use Rattle.definitions.specs.References.{run};
 ghost use Rattle.definitions.specs.Order.{wellOrdered};
 ghost use Rattle.definitions.specs.Refusals.{runsBefore, shapedAt, heldAt};
-ghost use Rattle.arena.specs.Sizes.{sizesOf};
-ghost use Rattle.rules.specs.Rules.{sizeIn, leading};
+ghost use Rattle.arena.specs.Lent.{given, areasIn};
+ghost use Rattle.arena.specs.Sizes.{sizesOf, sizeIn};
+ghost use Rattle.rules.specs.Rules.{leading};
 ghost use Rattle.faults.specs.Checking.{Measured, verdictOf, boundsAt, most, looksAt, okAt, placesIn, placesAt};
 ghost use Rattle.faults.specs.Checking.{carriedAt, carriedTo, inTurn, scanArea};
 use crate::Fault;
@@ -16,15 +17,13 @@ use crate::Verdict;
 use arena::AREAS;
 use arena::ARENAS;
 use arena::COMPONENTS;
-use arena::CONSTANTS;
 use arena::EXPRESSIONS;
 use arena::Expression;
 use arena::ExpressionHandle;
-use arena::GLOBALS;
 use arena::MEMBERS;
 use arena::MENTIONS;
 use arena::Mention;
-use arena::OVERRIDES;
+use arena::Module;
 use arena::Sizes;
 use arena::TYPES;
 use rules::Bounds;
@@ -40,41 +39,6 @@ const CALL_RESULT: u32 = 27;
 enum Place {
     At(u32, u32),
     Nowhere,
-}
-
-// The words of an arena.
-pub fn arena_words<'a>(
-    area: u32,
-    types: &'a [u32],
-    constants: &'a [u32],
-    overrides: &'a [u32],
-    globals: &'a [u32],
-    expressions: &'a [u32],
-) -> &'a [u32]
-    ensures { λ r. ⌜ now r ≡ words
-        (areasOf (now (types .entry)) (now (constants .entry)) (now (overrides .entry)) (now (globals .entry))
-        (now (expressions .entry)) [] [] [])
-        (numbered area) ⌝ }
-{
-    match area {
-        TYPES => types,
-        CONSTANTS => constants,
-        OVERRIDES => overrides,
-        GLOBALS => globals,
-        _ => expressions,
-    }
-}
-
-// The pool that an arena's runs lie in; empty for an arena without runs.
-pub fn pool_words<'a>(area: u32, members: &'a [u32], components: &'a [u32]) -> &'a [u32]
-    ensures { λ r. ⌜ now r ≡ pool
-        (areasOf [] [] [] [] [] (now (members .entry)) (now (components .entry)) []) (numbered area) ⌝ }
-{
-    match area {
-        TYPES => members,
-        CONSTANTS..=GLOBALS => &members[0..0],
-        _ => components,
-    }
 }
 
 // How many records the arena of an area has.
@@ -139,24 +103,10 @@ pub fn run_sum(a: usize, b: u32) -> usize
 }
 
 // What is carried to record i of an area from the record before it.
-fn carry<'a>(
-    number: u32,
-    area: u32,
-    i: u32,
-    before: Carried,
-    z: Sizes,
-    types: &'a [u32],
-    constants: &'a [u32],
-    overrides: &'a [u32],
-    globals: &'a [u32],
-    expressions: &'a [u32],
-    members: &'a [u32],
-    components: &'a [u32],
-    mentions: &'a [u32],
-) -> Carried
-    requires { ⌜ z ≡ sizesOf (areasOf (now (types)) (now (constants)) (now (overrides)) (now (globals)) (now (expressions)) (now (members)) (now (components)) (now (mentions))) ⌝ }
-    requires { ⌜ before ≡ carriedTo (areasOf (now (types)) (now (constants)) (now (overrides)) (now (globals)) (now (expressions)) (now (members)) (now (components)) (now (mentions))) number area i ⌝ }
-    ensures { λ r. ⌜ r ≡ carriedAt (areasOf (now (types .entry)) (now (constants .entry)) (now (overrides .entry)) (now (globals .entry)) (now (expressions .entry)) (now (members .entry)) (now (components .entry)) (now (mentions .entry))) number area i ⌝ }
+fn carry(number: u32, area: u32, i: u32, before: Carried, z: Sizes, m: &Module) -> Carried
+    requires { ⌜ z ≡ sizesOf (areasIn (now m)) ⌝ }
+    requires { ⌜ before ≡ carriedTo (areasIn (now m)) number area i ⌝ }
+    ensures { λ r. ⌜ r ≡ carriedAt (areasIn (given m)) number area i ⌝ }
 {
     let nothing = Carried { sum: 0, types: 0 };
     match number {
@@ -164,10 +114,12 @@ fn carry<'a>(
             if ARENAS <= area || i == 0 {
                 return nothing;
             }
-            let ws = arena_words(area, types, constants, overrides, globals, expressions);
             let at = (i - 1) as usize * slots::arena_width(area);
             Carried {
-                sum: run_sum(before.sum, slots::span(area, ws, at)),
+                sum: run_sum(
+                    before.sum,
+                    slots::span(area, slots::arena_words(area, m), at),
+                ),
                 types: 0,
             }
         }
@@ -177,7 +129,7 @@ fn carry<'a>(
             }
             Carried {
                 sum: 0,
-                types: rules::prefix(types, overrides, before.types, z.types, i),
+                types: rules::prefix(before.types, z.types, i, m),
             }
         }
         _ => nothing,
@@ -185,66 +137,41 @@ fn carry<'a>(
 }
 
 // Number 4: is record i of an arena shaped as its kind asks ?
-fn shaped_at<'a>(
-    area: u32,
-    i: u32,
-    sum: usize,
-    types: &'a [u32],
-    constants: &'a [u32],
-    overrides: &'a [u32],
-    globals: &'a [u32],
-    expressions: &'a [u32],
-    members: &'a [u32],
-    components: &'a [u32],
-    mentions: &'a [u32],
-) -> bool
-    requires { ⌜ sum ≡ min (runsBefore (areasOf (now (types)) (now (constants)) (now (overrides)) (now (globals)) (now (expressions)) (now (members)) (now (components)) (now (mentions))) (numbered area) i) most ⌝ }
-    ensures { λ r. ⌜ r ≡ shapedAt (areasOf (now (types .entry)) (now (constants .entry)) (now (overrides .entry)) (now (globals .entry)) (now (expressions .entry)) (now (members .entry)) (now (components .entry)) (now (mentions .entry))) (numbered area) i ⌝ }
+fn shaped_at(area: u32, i: u32, sum: usize, m: &Module) -> bool
+    requires { ⌜ Measured (areasIn (now m)) ⌝ }
+    requires { ⌜ sum ≡ min (runsBefore (areasIn (now m)) (numbered area) i) most ⌝ }
+    ensures { λ r. ⌜ r ≡ shapedAt (areasIn (given m)) (numbered area) i ⌝ }
 {
-    let ws = arena_words(area, types, constants, overrides, globals, expressions);
-    let pool = pool_words(area, members, components);
+    let ws = slots::arena_words(area, m);
     let run = Run {
         sum,
         span: slots::span(area, ws, i as usize * slots::arena_width(area)),
-        room: pool.len(),
+        room: slots::arena_pool(area, m).len(),
     };
-    rules::record_keeps(
-        Rule::Shaped(run),
+    rules::record_keeps(Rule::Shaped(run), area, i, m)
+}
+
+// The run of record i of an arena.
+fn run_at<'a>(area: u32, i: u32, m: &Module<'a>) -> &'a [u32]
+    ensures { λ r. ⌜ now r ≡ run (areasIn (given m)) (numbered area) i ⌝ }
+{
+    slots::run(
         area,
-        ws,
-        i,
-        constants,
-        overrides,
-        globals,
+        slots::arena_words(area, m),
+        i as usize * slots::arena_width(area),
+        slots::arena_pool(area, m),
     )
 }
 
 // Number 6: are all handles of record i of an arena there ?
-fn held_at<'a>(
-    area: u32,
-    i: u32,
-    z: Sizes,
-    types: &'a [u32],
-    constants: &'a [u32],
-    overrides: &'a [u32],
-    globals: &'a [u32],
-    expressions: &'a [u32],
-    members: &'a [u32],
-    components: &'a [u32],
-    mentions: &'a [u32],
-) -> bool
-    requires { ⌜ z ≡ sizesOf (areasOf (now (types)) (now (constants)) (now (overrides)) (now (globals)) (now (expressions)) (now (members)) (now (components)) (now (mentions))) ⌝ }
-    ensures { λ r. ⌜ r ≡ heldAt (areasOf (now (types .entry)) (now (constants .entry)) (now (overrides .entry)) (now (globals .entry)) (now (expressions .entry)) (now (members .entry)) (now (components .entry)) (now (mentions .entry))) (numbered area) i ⌝ }
+fn held_at(area: u32, i: u32, z: Sizes, m: &Module) -> bool
+    requires { ⌜ z ≡ sizesOf (areasIn (now m)) ⌝ }
+    ensures { λ r. ⌜ r ≡ heldAt (areasIn (given m)) (numbered area) i ⌝ }
 {
-    let ws = arena_words(area, types, constants, overrides, globals, expressions);
-    let pool = pool_words(area, members, components);
-    if !rules::record_keeps(Rule::Held(z), area, ws, i, constants, overrides, globals) {
+    if !rules::record_keeps(Rule::Held(z), area, i, m) {
         return false;
     }
-    rules::all_below(
-        slots::run(area, ws, i as usize * slots::arena_width(area), pool),
-        own_size(area, z),
-    )
+    rules::all_below(run_at(area, i, m), own_size(area, z))
 }
 
 // Below which type and expression what a type or an expression refers to must lie.
@@ -269,207 +196,73 @@ fn bounds(area: u32, i: u32, before: u32, types: u32) -> Bounds
 }
 
 // Number 7: is type or expression i well ordered ?
-fn ordered_at<'a>(
-    area: u32,
-    i: u32,
-    before: u32,
-    z: Sizes,
-    types: &'a [u32],
-    constants: &'a [u32],
-    overrides: &'a [u32],
-    globals: &'a [u32],
-    expressions: &'a [u32],
-    members: &'a [u32],
-    components: &'a [u32],
-    mentions: &'a [u32],
-) -> bool
-    requires { ⌜ Measured (areasOf (now (types)) (now (constants)) (now (overrides)) (now (globals)) (now (expressions)) (now (members)) (now (components)) (now (mentions))) ⌝ }
-    requires { ⌜ z ≡ sizesOf (areasOf (now (types)) (now (constants)) (now (overrides)) (now (globals)) (now (expressions)) (now (members)) (now (components)) (now (mentions))) ⌝ }
-    requires { ⌜ area ≡ 0 ⊎ ((area ≡ 4) × (before ≡ leading (areasOf (now (types)) (now (constants)) (now (overrides)) (now (globals)) (now (expressions)) (now (members)) (now (components)) (now (mentions))) i 0 (z .types))) ⌝ }
-    ensures { λ r. ⌜ r ≡ wellOrdered (areasOf (now (types .entry)) (now (constants .entry)) (now (overrides .entry)) (now (globals .entry)) (now (expressions .entry)) (now (members .entry)) (now (components .entry)) (now (mentions .entry))) (numbered area) i ⌝ }
+fn ordered_at(area: u32, i: u32, before: u32, z: Sizes, m: &Module) -> bool
+    requires { ⌜ Measured (areasIn (now m)) × (z ≡ sizesOf (areasIn (now m))) ⌝ }
+    requires { ⌜ area ≡ 0 ⊎ ((area ≡ 4) × (before ≡ leading (areasIn (now m)) i 0 (z .types))) ⌝ }
+    ensures { λ r. ⌜ r ≡ wellOrdered (areasIn (given m)) (numbered area) i ⌝ }
 {
-    let ws = arena_words(area, types, constants, overrides, globals, expressions);
-    let pool = pool_words(area, members, components);
     let b = bounds(area, i, before, z.types);
-    if !rules::record_keeps(Rule::Ordered(b), area, ws, i, constants, overrides, globals) {
+    if !rules::record_keeps(Rule::Ordered(b), area, i, m) {
         return false;
     }
-    rules::all_below(
-        slots::run(area, ws, i as usize * slots::arena_width(area), pool),
-        i,
-    )
+    rules::all_below(run_at(area, i, m), i)
 }
 
 // Is record i of an arena good under a number ?
-fn record_fine<'a>(
-    number: u32,
-    area: u32,
-    i: u32,
-    carried: Carried,
-    z: Sizes,
-    types: &'a [u32],
-    constants: &'a [u32],
-    overrides: &'a [u32],
-    globals: &'a [u32],
-    expressions: &'a [u32],
-    members: &'a [u32],
-    components: &'a [u32],
-    mentions: &'a [u32],
-) -> bool
+fn record_fine(number: u32, area: u32, i: u32, carried: Carried, z: Sizes, m: &Module) -> bool
     requires { ⌜ (4 ≤ number) × (number < 8) ⌝ }
-    requires { ⌜ Measured (areasOf (now (types)) (now (constants)) (now (overrides)) (now (globals)) (now (expressions)) (now (members)) (now (components)) (now (mentions))) ⌝ }
-    requires { ⌜ z ≡ sizesOf (areasOf (now (types)) (now (constants)) (now (overrides)) (now (globals)) (now (expressions)) (now (members)) (now (components)) (now (mentions))) ⌝ }
-    requires { ⌜ carried ≡ carriedAt (areasOf (now (types)) (now (constants)) (now (overrides)) (now (globals)) (now (expressions)) (now (members)) (now (components)) (now (mentions))) number area i ⌝ }
+    requires { ⌜ Measured (areasIn (now m)) × (z ≡ sizesOf (areasIn (now m))) ⌝ }
+    requires { ⌜ carried ≡ carriedAt (areasIn (now m)) number area i ⌝ }
     requires { ⌜ (area < 5) × (looksAt number area ≡ true) ⌝ }
-    ensures { λ r. ⌜ r ≡ okAt (areasOf (now (types .entry)) (now (constants .entry)) (now (overrides .entry)) (now (globals .entry)) (now (expressions .entry)) (now (members .entry)) (now (components .entry)) (now (mentions .entry))) number area i ⌝ }
+    ensures { λ r. ⌜ r ≡ okAt (areasIn (given m)) number area i ⌝ }
 {
     match number {
-        4 => shaped_at(
-            area,
-            i,
-            carried.sum,
-            types,
-            constants,
-            overrides,
-            globals,
-            expressions,
-            members,
-            components,
-            mentions,
-        ),
+        4 => shaped_at(area, i, carried.sum, m),
         5 => {
-            let kind = Expression::kind(expressions, ExpressionHandle(i));
+            let kind = Expression::kind(m, ExpressionHandle(i));
             kind != GLOBAL_VARIABLE && kind != CALL_RESULT
         }
-        6 => held_at(
-            area,
-            i,
-            z,
-            types,
-            constants,
-            overrides,
-            globals,
-            expressions,
-            members,
-            components,
-            mentions,
-        ),
-        _ => ordered_at(
-            area,
-            i,
-            carried.types,
-            z,
-            types,
-            constants,
-            overrides,
-            globals,
-            expressions,
-            members,
-            components,
-            mentions,
-        ),
+        6 => held_at(area, i, z, m),
+        _ => ordered_at(area, i, carried.types, z, m),
     }
 }
 
 // Is mention i good under a number ?
-fn mention_fine<'a>(
-    number: u32,
-    i: u32,
-    z: Sizes,
-    types: &'a [u32],
-    constants: &'a [u32],
-    overrides: &'a [u32],
-    globals: &'a [u32],
-    expressions: &'a [u32],
-    members: &'a [u32],
-    components: &'a [u32],
-    mentions: &'a [u32],
-) -> bool
-    requires { ⌜ z ≡ sizesOf (areasOf (now (types)) (now (constants)) (now (overrides)) (now (globals)) (now (expressions)) (now (members)) (now (components)) (now (mentions))) ⌝ }
+fn mention_fine(number: u32, i: u32, z: Sizes, m: &Module) -> bool
+    requires { ⌜ z ≡ sizesOf (areasIn (now m)) ⌝ }
     requires { ⌜ number ≡ 4 ⊎ number ≡ 6 ⌝ }
-    ensures { λ r. ⌜ r ≡ okAt (areasOf (now (types .entry)) (now (constants .entry)) (now (overrides .entry)) (now (globals .entry)) (now (expressions .entry)) (now (members .entry)) (now (components .entry)) (now (mentions .entry))) number 7 i ⌝ }
+    ensures { λ r. ⌜ r ≡ okAt (areasIn (given m)) number 7 i ⌝ }
 {
-    let area = Mention::area(mentions, i);
+    let area = Mention::area(m, i);
     if number == 4 {
         return area < ARENAS;
     }
-    Mention::handle(mentions, i) < own_size(area, z)
+    Mention::handle(m, i) < own_size(area, z)
 }
 
 // Is a place good under a number ?
-fn fine<'a>(
-    number: u32,
-    area: u32,
-    i: u32,
-    carried: Carried,
-    z: Sizes,
-    types: &'a [u32],
-    constants: &'a [u32],
-    overrides: &'a [u32],
-    globals: &'a [u32],
-    expressions: &'a [u32],
-    members: &'a [u32],
-    components: &'a [u32],
-    mentions: &'a [u32],
-) -> bool
+fn fine(number: u32, area: u32, i: u32, carried: Carried, z: Sizes, m: &Module) -> bool
     requires { ⌜ (4 ≤ number) × (number < 8) ⌝ }
-    requires { ⌜ Measured (areasOf (now (types)) (now (constants)) (now (overrides)) (now (globals)) (now (expressions)) (now (members)) (now (components)) (now (mentions))) ⌝ }
-    requires { ⌜ z ≡ sizesOf (areasOf (now (types)) (now (constants)) (now (overrides)) (now (globals)) (now (expressions)) (now (members)) (now (components)) (now (mentions))) ⌝ }
-    requires { ⌜ carried ≡ carriedAt (areasOf (now (types)) (now (constants)) (now (overrides)) (now (globals)) (now (expressions)) (now (members)) (now (components)) (now (mentions))) number area i ⌝ }
-    requires { ⌜ (area < 8) × (i < placesAt (areasOf (now (types)) (now (constants)) (now (overrides)) (now (globals)) (now (expressions)) (now (members)) (now (components)) (now (mentions))) number area) ⌝ }
-    ensures { λ r. ⌜ r ≡ okAt (areasOf (now (types .entry)) (now (constants .entry)) (now (overrides .entry)) (now (globals .entry)) (now (expressions .entry)) (now (members .entry)) (now (components .entry)) (now (mentions .entry))) number area i ⌝ }
+    requires { ⌜ Measured (areasIn (now m)) × (z ≡ sizesOf (areasIn (now m))) ⌝ }
+    requires { ⌜ carried ≡ carriedAt (areasIn (now m)) number area i ⌝ }
+    requires { ⌜ (area < 8) × (i < placesAt (areasIn (now m)) number area) ⌝ }
+    ensures { λ r. ⌜ r ≡ okAt (areasIn (given m)) number area i ⌝ }
 {
     match area {
-        TYPES..=EXPRESSIONS => record_fine(
-            number,
-            area,
-            i,
-            carried,
-            z,
-            types,
-            constants,
-            overrides,
-            globals,
-            expressions,
-            members,
-            components,
-            mentions,
-        ),
-        MEMBERS => rules::pool_used(TYPES, types, z.types, members.len()),
-        COMPONENTS => rules::pool_used(EXPRESSIONS, expressions, z.expressions, components.len()),
-        _ => mention_fine(
-            number,
-            i,
-            z,
-            types,
-            constants,
-            overrides,
-            globals,
-            expressions,
-            members,
-            components,
-            mentions,
-        ),
+        TYPES..=EXPRESSIONS => record_fine(number, area, i, carried, z, m),
+        MEMBERS => rules::pool_used(TYPES, z.types, m),
+        COMPONENTS => rules::pool_used(EXPRESSIONS, z.expressions, m),
+        _ => mention_fine(number, i, z, m),
     }
 }
 
 // The first place that is at fault under a number.
-pub fn first<'a>(
-    number: u32,
-    types: &'a [u32],
-    constants: &'a [u32],
-    overrides: &'a [u32],
-    globals: &'a [u32],
-    expressions: &'a [u32],
-    members: &'a [u32],
-    components: &'a [u32],
-    mentions: &'a [u32],
-) -> Verdict
+pub fn first(number: u32, m: &Module) -> Verdict
     requires { ⌜ (4 ≤ number) × (number < 8) ⌝ }
-    requires { ⌜ Measured (areasOf (now (types)) (now (constants)) (now (overrides)) (now (globals)) (now (expressions)) (now (members)) (now (components)) (now (mentions))) ⌝ }
-    ensures { λ r. ⌜ verdictOf r ≡ inTurn (scanArea (areasOf (now (types .entry)) (now (constants .entry)) (now (overrides .entry)) (now (globals .entry)) (now (expressions .entry)) (now (members .entry)) (now (components .entry)) (now (mentions .entry))) number) 0 8 ⌝ }
+    requires { ⌜ Measured (areasIn (now m)) ⌝ }
+    ensures { λ r. ⌜ verdictOf r ≡ inTurn (scanArea (areasIn (given m)) number) 0 8 ⌝ }
 {
-    let z = Sizes::of(types, constants, overrides, globals, expressions, mentions);
+    let z = Sizes::of(m);
     let mut area = 0;
     let place = 'areas: loop {
         if AREAS <= area {
@@ -479,36 +272,8 @@ pub fn first<'a>(
         let mut carried = Carried { sum: 0, types: 0 };
         let mut i = 0;
         while i < n {
-            carried = carry(
-                number,
-                area,
-                i,
-                carried,
-                z,
-                types,
-                constants,
-                overrides,
-                globals,
-                expressions,
-                members,
-                components,
-                mentions,
-            );
-            if !fine(
-                number,
-                area,
-                i,
-                carried,
-                z,
-                types,
-                constants,
-                overrides,
-                globals,
-                expressions,
-                members,
-                components,
-                mentions,
-            ) {
+            carried = carry(number, area, i, carried, z, m);
+            if !fine(number, area, i, carried, z, m) {
                 break 'areas Place::At(area, i);
             }
             i += 1;

@@ -8,6 +8,7 @@ ghost use lib.Dec.{eqb};
 ghost use Rattle.definitions.specs.Areas.{N};
 ghost use Rattle.definitions.specs.Numbering.{rank};
 ghost use Rattle.definitions.specs.MapEntries.{lookup, adjust, live, last, spanned, range};
+ghost use Rattle.arena.specs.Lent.{given, left};
 ghost use Rattle.handle_map.specs.Answers.{adjustedOf, rangedOf};
 ghost use Rattle.handle_map.specs.FromSet.{inSet, mapped};
 use arena::N;
@@ -42,9 +43,8 @@ fn chosen(one: u32, next: u32) -> u32
 // Words past the records stay; a map shorter than the records is filled. Answers how many are kept.
 pub fn from_set(marks: &[u64], base: u32, n: u32, map: &mut [u32]) -> u32
     ensures { λ r. ⌜
-        (r ≡ rank (inSet (now (marks .entry)) base) (min n (length (now (map .entry)))))
-        × (now (map .exit) ≡
-        mapped (inSet (now (marks .entry)) base) (min n (length (now (map .entry)))) (now (map .entry))) ⌝ }
+        (r ≡ rank (inSet (given marks) base) (min n (length (given map))))
+        × (left map ≡ mapped (inSet (given marks) base) (min n (length (given map))) (given map)) ⌝ }
 {
     let mut next: u32 = 0;
     let mut h: u32 = 0;
@@ -59,7 +59,7 @@ pub fn from_set(marks: &[u64], base: u32, n: u32, map: &mut [u32]) -> u32
 
 // As the Rust's `HandleMap::get`: the new handle, or N where it was dropped or is past the end.
 pub fn lookup(map: &[u32], handle: u32) -> u32
-    ensures { λ r. ⌜ r ≡ lookup (now (map .entry)) handle ⌝ }
+    ensures { λ r. ⌜ r ≡ lookup (given map) handle ⌝ }
 {
     let i = handle as usize;
     if i < map.len() { map[i] } else { N }
@@ -67,7 +67,7 @@ pub fn lookup(map: &[u32], handle: u32) -> u32
 
 // As `HandleMap::adjust`, which panics where this gives no handle.
 pub fn adjust(map: &[u32], handle: u32) -> Adjusted
-    ensures { λ r. ⌜ adjustedOf r ≡ adjust (now (map .entry)) handle ⌝ }
+    ensures { λ r. ⌜ adjustedOf r ≡ adjust (given map) handle ⌝ }
 {
     let i = handle as usize;
     if i >= map.len() {
@@ -82,7 +82,7 @@ pub fn adjust(map: &[u32], handle: u32) -> Adjusted
 
 // The first live word, from the start on; N where there is none.
 fn first_live(words: &[u32]) -> u32
-    ensures { λ r. ⌜ r ≡ getD (live (now (words .entry))) 0 N ⌝ }
+    ensures { λ r. ⌜ r ≡ getD (live (given words)) 0 N ⌝ }
 {
     let mut i = 0;
     while i < words.len() {
@@ -97,7 +97,7 @@ fn first_live(words: &[u32]) -> u32
 
 // The last live word, from the end back; N where there is none.
 fn last_live(words: &[u32]) -> u32
-    ensures { λ r. ⌜ r ≡ last N (live (now (words .entry))) ⌝ }
+    ensures { λ r. ⌜ r ≡ last N (live (given words)) ⌝ }
 {
     let mut i = words.len();
     while i > 0 {
@@ -112,7 +112,7 @@ fn last_live(words: &[u32]) -> u32
 
 // From the first live word to the last one plus 1. A live word is below N, so the sum fits.
 fn span(words: &[u32]) -> Ranged
-    ensures { λ r. ⌜ rangedOf r ≡ spanned (live (now (words .entry))) ⌝ }
+    ensures { λ r. ⌜ rangedOf r ≡ spanned (live (given words)) ⌝ }
 {
     let first = first_live(words);
     if first == N {
@@ -125,7 +125,7 @@ fn span(words: &[u32]) -> Ranged
 
 // As `HandleMap::adjust_range`: a range shrunk to its live handles. Nothing is tested against the compacted arena.
 pub fn adjust_range(map: &[u32], start: u32, end: u32) -> Ranged
-    ensures { λ r. ⌜ rangedOf r ≡ range (now (map .entry)) start end ⌝ }
+    ensures { λ r. ⌜ rangedOf r ≡ range (given map) start end ⌝ }
 {
     let from = start as usize;
     let to = end as usize;
@@ -165,19 +165,19 @@ impl<'a> HandleMap<'a> {
 
 // The reader's methods for a caller that has a slice and holds no reader.
 pub fn get_in(words: &[u32], handle: u32) -> u32
-    ensures { λ r. ⌜ r ≡ lookup (now (words .entry)) handle ⌝ }
+    ensures { λ r. ⌜ r ≡ lookup (given words) handle ⌝ }
 {
     HandleMap { map: words }.get(handle)
 }
 
 pub fn adjust_in(words: &[u32], handle: u32) -> Adjusted
-    ensures { λ r. ⌜ adjustedOf r ≡ adjust (now (words .entry)) handle ⌝ }
+    ensures { λ r. ⌜ adjustedOf r ≡ adjust (given words) handle ⌝ }
 {
     HandleMap { map: words }.adjust(handle)
 }
 
 pub fn adjust_range_in(words: &[u32], start: u32, end: u32) -> Ranged
-    ensures { λ r. ⌜ rangedOf r ≡ range (now (words .entry)) start end ⌝ }
+    ensures { λ r. ⌜ rangedOf r ≡ range (given words) start end ⌝ }
 {
     HandleMap { map: words }.adjust_range(start, end)
 }

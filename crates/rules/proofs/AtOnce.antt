@@ -7,20 +7,20 @@ use Prim.Native.Nat.{ℕ, suc, _≤_, _<_}
 use native.Mathlib.Nat.{le-trans}
 use lib.Dec.{T, eqb, ltb, ltb→lt, lt→ltb}
 use Rattle.definitions.specs.Lists.{all}
-use Rattle.definitions.specs.Areas.{Words, N, Arena, at, types, constants, overrides, globals, expressions, wordOf}
+use Rattle.definitions.specs.Areas.{N, Areas, Arena, at, types, constants, overrides, globals, expressions, word}
 use Rattle.definitions.specs.Slots.{Slot, unused, free, below, must, may, start, count, fill, exprSlots, exprBody, body, slots}
 use Rattle.definitions.specs.References.{namedBy}
 use Rattle.definitions.specs.Order.{withBehind}
 use Rattle.definitions.specs.Refusals.{every}
 use Rattle.definitions.proofs.Least.{and-left, and-right}
 use Rattle.definitions.proofs.Least.{both}
-use Rattle.slots.specs.Part.{part}
+use Rattle.arena.specs.Sizes.{sizeIn}
 use Rattle.slots.proofs.Laws.{every-tag}
 use Rattle.rules.specs.declared.Limits.{Limits}
 use Rattle.rules.specs.declared.Bounds.{Bounds}
 use Rattle.rules.specs.declared.Rule.{Rule}
 use Rattle.rules.specs.declared.Rule.the-variants.{Shaped, Held, Ordered}
-use Rattle.rules.specs.Rules.{sizeIn, shapedBy, heldBy, within, asked, fitBy, goodBy}
+use Rattle.rules.specs.Rules.{shapedBy, heldBy, within, asked, fitBy, goodBy}
 use Rattle.rules.proofs.Arms.{fits}
 use Rattle.rules.proofs.Behind.{of-type, of-expression, of-constant, of-override}
 use Rattle.rules.proofs.Every.{tag-kept}
@@ -49,8 +49,8 @@ unless : (a b c : Bool) → (T b → T c) → T (a || b) → T (cond a true c)
 unless true b c f t = tt
 unless false b c f t = f t
 
-module _ (c o g : Words) (l : Limits) where
-  good-shaped : (x : Slot) (w : ℕ) → T (goodBy c o l x w) → T (shapedBy (l .run) x w)
+module _ (s : Areas) (l : Limits) where
+  good-shaped : (x : Slot) (w : ℕ) → T (goodBy s l x w) → T (shapedBy (l .run) x w)
   unfolding goodBy shapedBy
   good-shaped unused w t = t
   good-shaped free w t = tt
@@ -61,7 +61,7 @@ module _ (c o g : Words) (l : Limits) where
   good-shaped count w t = tt
 
   module _ (n : Arena → ℕ) (p : l .types ≤ n types) (q : l .constants ≤ n constants) (r : l .overrides ≤ n overrides) (e : l .expressions ≤ n expressions) where
-    fit-held : (a : Arena) (w : ℕ) → T (fitBy c o l a w) → T (ltb w (n a))
+    fit-held : (a : Arena) (w : ℕ) → T (fitBy s l a w) → T (ltb w (n a))
     unfolding fitBy
     fit-held types w t = raised w _ _ p t
     fit-held constants w t = raised w _ _ q (and-left (ltb w (l .constants)) _ t)
@@ -69,7 +69,7 @@ module _ (c o g : Words) (l : Limits) where
     fit-held globals w t = absurd t
     fit-held expressions w t = raised w _ _ e t
 
-    good-held : (x : Slot) (w : ℕ) → T (goodBy c o l x w) → T (heldBy n x w)
+    good-held : (x : Slot) (w : ℕ) → T (goodBy s l x w) → T (heldBy n x w)
     unfolding goodBy heldBy
     good-held unused w t = tt
     good-held free w t = tt
@@ -81,30 +81,30 @@ module _ (c o g : Words) (l : Limits) where
 
   module _ (b : Bounds) (p : (u : ℕ) → u < l .types → T (within b (at types u))) (e : (i : ℕ) → i < l .expressions → T (within b (at expressions i))) where
     abbrev Fits : Arena → ℕ → Type 0
-    Fits a w = T (fits b (part c o g) (at a w ∷ []))
+    Fits a w = T (fits b s (at a w ∷ []))
 
-    fit-ordered : (a : Arena) (w : ℕ) → T (fitBy c o l a w) → Fits a w
+    fit-ordered : (a : Arena) (w : ℕ) → T (fitBy s l a w) → Fits a w
     unfolding fitBy
-    fit-ordered types w t = subst T (of-type b (part c o g) w) (p w (ltb→lt w _ t))
+    fit-ordered types w t = subst T (of-type b s w) (p w (ltb→lt w _ t))
     fit-ordered constants w t =
-        let y = wordOf c constants w 1 in
-        let i = wordOf c constants w 2 in
+        let y = word s constants w 1 in
+        let i = word s constants w 2 in
         let u = and-right (ltb w (l .constants)) (ltb y (l .types) && ltb i (l .expressions)) t in
-        subst T (sym (of-constant b (part c o g) w .says))
+        subst T (sym (of-constant b s w .says))
         (both (within b (at types y)) (within b (at expressions i)) (p y (ltb→lt y (l .types) (and-left (ltb y (l .types)) (ltb i (l .expressions)) u)))
         (e i (ltb→lt i (l .expressions) (and-right (ltb y (l .types)) (ltb i (l .expressions)) u))))
     fit-ordered overrides w t =
-        let y = wordOf o overrides w 1 in
-        let i = wordOf o overrides w 2 in
+        let y = word s overrides w 1 in
+        let i = word s overrides w 2 in
         let u = and-right (ltb w (l .overrides)) (ltb y (l .types) && (eqb i N || ltb i (l .expressions))) t in
-        subst T (sym (of-override b (part c o g) w .says))
+        subst T (sym (of-override b s w .says))
         (both (within b (at types y)) (eqb i N || within b (at expressions i)) (p y (ltb→lt y (l .types) (and-left (ltb y (l .types)) (eqb i N || ltb i (l .expressions)) u)))
         (either (eqb i N) (ltb i (l .expressions)) (within b (at expressions i)) (λ v. e i (ltb→lt i (l .expressions) v))
         (and-right (ltb y (l .types)) (eqb i N || ltb i (l .expressions)) u)))
     fit-ordered globals w t = absurd t
-    fit-ordered expressions w t = subst T (of-expression b (part c o g) w) (e w (ltb→lt w _ t))
+    fit-ordered expressions w t = subst T (of-expression b s w) (e w (ltb→lt w _ t))
 
-    good-ordered : (x : Slot) (w : ℕ) → T (goodBy c o l x w) → T (fits b (part c o g) (namedBy x w))
+    good-ordered : (x : Slot) (w : ℕ) → T (goodBy s l x w) → T (fits b s (namedBy x w))
     unfolding goodBy namedBy withBehind all
     good-ordered unused w t = tt
     good-ordered free w t = tt
@@ -112,24 +112,24 @@ module _ (c o g : Words) (l : Limits) where
     good-ordered (must a) w t = fit-ordered a w t
     good-ordered (may a) w t = go (eqb w N) t
       where
-        go : (b′ : Bool) → T (b′ || fitBy c o l a w) → T (fits b (part c o g) (cond b′ [] (at a w ∷ [])))
+        go : (b′ : Bool) → T (b′ || fitBy s l a w) → T (fits b s (cond b′ [] (at a w ∷ [])))
         go true t = tt
         go false t = fit-ordered a w t
     good-ordered start w t = tt
     good-ordered count w t = tt
 
-  good-asked : (rule : Rule) → Enough l rule → (x : Slot) (w : ℕ) → T (goodBy c o l x w) → T (asked c o g rule x w)
+  good-asked : (rule : Rule) → Enough l rule → (x : Slot) (w : ℕ) → T (goodBy s l x w) → T (asked s rule x w)
   unfolding asked
   good-asked (Shaped r) h x w t = subst (λ r. T (shapedBy r x w)) h (good-shaped x w t)
   good-asked (Held z) h x w t = good-held (sizeIn z) (h .0) (h .1) (h .2) (h .3) x w t
   good-asked (Ordered b) h x w t = good-ordered b (h .0) (h .1) x w t
 
   -- a record whose words are good keeps every rule that the limits are enough for
-  pub good-keeps : (rule : Rule) → Enough l rule → (a : Arena) (f : ℕ → ℕ) → T (every (goodBy c o l) f 0 (body a f)) → T (every (asked c o g rule) f 0 (slots a f))
+  pub good-keeps : (rule : Rule) → Enough l rule → (a : Arena) (f : ℕ → ℕ) → T (every (goodBy s l) f 0 (body a f)) → T (every (asked s rule) f 0 (slots a f))
   unfolding slots
-  good-keeps rule h a f t = subst T (sym (every-tag (asked c o g rule) f (tag-kept c o g rule) (body a f) 0)) (every-from _ _ f (good-asked rule h) 0 (body a f) t)
+  good-keeps rule h a f t = subst T (sym (every-tag (asked s rule) f (tag-kept s rule) (body a f) 0)) (every-from _ _ f (good-asked rule h) 0 (body a f) t)
 
   -- and is of no kind that number 5 refuses
-  pub good-kind : (f : ℕ → ℕ) → T (every (goodBy c o l) f 0 (body expressions f)) → (f 0 ≡ 13 → ⊥) × (f 0 ≡ 27 → ⊥)
+  pub good-kind : (f : ℕ → ℕ) → T (every (goodBy s l) f 0 (body expressions f)) → (f 0 ≡ 13 → ⊥) × (f 0 ≡ 27 → ⊥)
   unfolding body exprBody exprSlots fill every goodBy
   good-kind f t = ((λ e. rw e at t), (λ e. rw e at t))

@@ -6,7 +6,7 @@ use mathlib.Core.List.{[], _∷_, _++_}
 use Prim.Native.Nat.{ℕ}
 use lib.Dec.{eqb}
 use Rattle.definitions.specs.Lists.{all}
-use Rattle.definitions.specs.Areas.{N, Areas, Elem, at, types, constants, overrides, globals, expressions, wordOf, word, words}
+use Rattle.definitions.specs.Areas.{N, Areas, Elem, at, types, constants, overrides, globals, expressions, word, words}
 use Rattle.definitions.specs.Slots.{slots, body, layout}
 use Rattle.definitions.specs.References.{hasRun, span, run, namedBy, namedFrom, references}
 use Rattle.definitions.specs.Order.{behind, withBehind}
@@ -55,18 +55,18 @@ module _ (b : Bounds) (s : Areas) where
   unfolding opened
   of-expression h = sym (and-true (ofInit h))
 
-  pub of-constant : (h : ℕ) → Both ofType (wordOf (s .constants) constants h 1) ofInit (wordOf (s .constants) constants h 2) (fits b s (at constants h ∷ []))
+  pub of-constant : (h : ℕ) → Both ofType (word s constants h 1) ofInit (word s constants h 2) (fits b s (at constants h ∷ []))
   unfolding opened
-  of-constant h = record { says = ap (λ x. ofType (wordOf (s .constants) constants h 1) && x) (and-true _) }
+  of-constant h = record { says = ap (λ x. ofType (word s constants h 1) && x) (and-true _) }
 
-  pub of-override : (h : ℕ) → Both ofType (wordOf (s .overrides) overrides h 1) ofMaybe (wordOf (s .overrides) overrides h 2) (fits b s (at overrides h ∷ []))
+  pub of-override : (h : ℕ) → Both ofType (word s overrides h 1) ofMaybe (word s overrides h 2) (fits b s (at overrides h ∷ []))
   unfolding opened
   of-override h =
-      let e = wordOf (s .overrides) overrides h 2 in
-      record { says = ap (λ x. ofType (wordOf (s .overrides) overrides h 1) && x) (all-may (within b) (eqb e N) (at expressions e)) }
+      let e = word s overrides h 2 in
+      record { says = ap (λ x. ofType (word s overrides h 1) && x) (all-may (within b) (eqb e N) (at expressions e)) }
 
-  pub of-global : (h : ℕ) → Both ofType (wordOf (s .globals) globals h 0) ofMaybe (wordOf (s .globals) globals h 1) (fits b s (at globals h ∷ []))
+  pub of-global : (h : ℕ) → Both ofType (word s globals h 0) ofMaybe (word s globals h 1) (fits b s (at globals h ∷ []))
   unfolding opened
   of-global h =
-      let e = wordOf (s .globals) globals h 1 in
-      record { says = ap (λ x. ofType (wordOf (s .globals) globals h 0) && x) (all-may (within b) (eqb e N) (at expressions e)) }
+      let e = word s globals h 1 in
+      record { says = ap (λ x. ofType (word s globals h 0) && x) (all-may (within b) (eqb e N) (at expressions e)) }

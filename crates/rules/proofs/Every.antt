@@ -6,7 +6,7 @@ use Prim.Native.Nat.{ℕ, zero, suc, _+_, _-_, _/_, _%_, _≤_, _<_}
 use native.Mathlib.Numerals.{add-one}
 use native.Mathlib.Omega.{arith}
 use Rattle.definitions.specs.Lists.{all}
-use Rattle.definitions.specs.Areas.{Words}
+use Rattle.definitions.specs.Areas.{Areas}
 use Rattle.definitions.specs.Slots.{Slot, unused, free}
 use Rattle.definitions.specs.References.{namedBy}
 use Rattle.definitions.specs.Order.{withBehind}
@@ -18,11 +18,11 @@ use Rattle.rules.specs.declared.Rule.the-variants.{Shaped, Held, Ordered
 use Rattle.rules.specs.Rules.{shapedBy, heldBy, asked}
 
 -- no rule asks anything of a tag
-pub tag-kept : (c o g : Words) (rule : Rule) (w : ℕ) → asked c o g rule free w ≡ true
+pub tag-kept : (s : Areas) (rule : Rule) (w : ℕ) → asked s rule free w ≡ true
 unfolding asked shapedBy heldBy namedBy withBehind all
-tag-kept c o g (Shaped r) w = refl
-tag-kept c o g (Held z) w = refl
-tag-kept c o g (Ordered b) w = refl
+tag-kept s (Shaped r) w = refl
+tag-kept s (Held z) w = refl
+tag-kept s (Ordered b) w = refl
 
 -- of a shape that has run out two tests ask the same if they ask the same of unused slots
 pub same-unused : (p q : Slot → ℕ → Bool) (f : ℕ → ℕ) → ((w : ℕ) → p unused w ≡ q unused w) → (n k : ℕ) → every p f k (unpacked 0 n) ≡ every q f k (unpacked 0 n)

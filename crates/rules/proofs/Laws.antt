@@ -1,7 +1,7 @@
 -- What numbers 4, 6 and 7 ask of a module, in the terms of this crate's contracts.
 -- Assumes nothing.
 use mathlib.Core.Path.{_≡_, refl, sym, ap, ap₂, _∙_}
-use mathlib.Core.Bool.{Bool, true, false, _&&_, _||_, cond, and-assoc}
+use mathlib.Core.Bool.{Bool, true, false, _&&_, _||_, cond, and-assoc, and-false}
 use mathlib.Core.List.{List, [], _∷_, _++_}
 use Prim.Native.Nat.{ℕ, zero, suc, _+_, _-_, _*_, _%_, _≤_, _<_, min}
 use native.Mathlib.Decide.{decLe}
@@ -10,17 +10,17 @@ use lib.Dec.{eqb, ltb, leb}
 use lib.ListN.{length, List·getD-eq-default}
 use borrow.Author.Tests.{lt-ltb, le-ltb, le-leb, lt-leb, leb-true, leb-false, eq-eqb, ne-eqb}
 use Rattle.definitions.specs.Lists.{all}
-use Rattle.definitions.specs.Areas.{N, Arena, Areas, Elem, areasOf, at, types, constants, overrides, globals, expressions, width, words, word, size, pool}
+use Rattle.definitions.specs.Areas.{N, Arena, Areas, Elem, at, types, constants, overrides, globals, expressions, width, words, word, size, pool}
 use Rattle.definitions.specs.Slots.{Slot, unused, free, below, must, may, start, count}
 use Rattle.definitions.specs.References.{span, namedBy, namedFrom}
 use Rattle.definitions.specs.Order.{withBehind, sizedBy, pastDep}
 use Rattle.definitions.specs.Refusals.{every, runsBefore, shaped, inside, held}
 use Rattle.definitions.proofs.Kept.{sized-past}
 use Rattle.definitions.proofs.Tandem.{past-mono}
-use Rattle.arena.specs.Sizes.{sizesOf}
+use Rattle.arena.specs.Sizes.{sizesOf, sizeIn}
 use Rattle.slots.proofs.Laws.{behind-append}
 use Rattle.rules.specs.declared.Run.{Run}
-use Rattle.rules.specs.Rules.{sizeIn, shapedBy, heldBy, leading}
+use Rattle.rules.specs.Rules.{shapedBy, heldBy, leading}
 
 -- the sizes of a module, arena by arena
 pub size-in : (s : Areas) (a : Arena) → size s a ≡ sizeIn (sizesOf s) a
@@ -41,30 +41,29 @@ held-by s (may a) w = ap (λ n. cond (eqb w N) true (ltb w n)) (size-in s a)
 held-by s start w = refl
 held-by s count w = refl
 
--- no word can tell a sum from its cap
-capped : (w n m : ℕ) → w < m → eqb w n ≡ eqb w (min n m)
-capped w n m l = elim (decLe n m) [
-  | yes h ↦ let e : n ≡ min n m = omega arith in ap (eqb w) e
-  | no h ↦ ne-eqb w n (λ q. omega arith) ∙ sym (ne-eqb w (min n m) (λ q. omega arith))
+-- a word that leaves room in a pool can't tell a sum from its cap, which is past the pool
+capped : (w k r n m : ℕ) → r < m → eqb w n && leb (w + k) r ≡ eqb w (min n m) && leb (w + k) r
+capped w k r n m l = elim (decLe (w + k) r) [
+  | yes h ↦ elim (decLe n m) [
+    | yes q ↦ let e : n ≡ min n m = omega arith in ap (λ n. eqb w n && leb (w + k) r) e
+    | no q ↦ rw (ne-eqb w n (λ e. omega arith), ne-eqb w (min n m) (λ e. omega arith))
+  ]
+  | no h ↦ rw (lt-leb (w + k) r (omega arith), and-false (eqb w n), and-false (eqb w (min n m)))
 ]
 
--- number 4 asks of a word no more than the sum before, as far as a word can equal it, the record's count and its pool's length
-pub shaped-by : (s : Areas) (a : Arena) (h : ℕ) (r : Run) → r .sum ≡ min (runsBefore s a h) 4294967296 → r .span ≡ span s a h → r .room ≡ length (pool s a)
-    → (l : Slot) (w : ℕ) → w < 4294967296 → shaped s a h l w ≡ shapedBy r l w
+-- number 4 asks of a word no more than the sum before, up to a cap past the pool, the record's count and its pool's length
+pub shaped-by : (s : Areas) (a : Arena) (h : ℕ) (r : Run) → length (pool s a) < 4294967296 → r .sum ≡ min (runsBefore s a h) 4294967296
+    → r .span ≡ span s a h → r .room ≡ length (pool s a) → (l : Slot) (w : ℕ) → shaped s a h l w ≡ shapedBy r l w
 unfolding shaped shapedBy
-shaped-by s a h r p q e unused w m = refl
-shaped-by s a h r p q e free w m = refl
-shaped-by s a h r p q e (below n) w m = refl
-shaped-by s a h r p q e (must b) w m = refl
-shaped-by s a h r p q e (may b) w m = refl
-shaped-by s a h r p q e start w m =
-    ap₂ _&&_ (capped w (runsBefore s a h) 4294967296 m ∙ ap (eqb w) (sym p)) (ap₂ (λ n k. leb (w + n) k) (sym q) (sym e))
-shaped-by s a h r p q e count w m = refl
-
--- what sizes a type stands in the types and overrides
-pub sized-part : (s : Areas) (t : ℕ) → sizedBy s t ≡ sizedBy (areasOf (s .types) [] (s .overrides) [] [] [] [] []) t
-unfolding sizedBy word words
-sized-part s t = refl
+shaped-by s a h r m p q e unused w = refl
+shaped-by s a h r m p q e free w = refl
+shaped-by s a h r m p q e (below n) w = refl
+shaped-by s a h r m p q e (must b) w = refl
+shaped-by s a h r m p q e (may b) w = refl
+shaped-by s a h r m p q e start w =
+    capped w (span s a h) (length (pool s a)) (runsBefore s a h) 4294967296 m
+    ∙ ap₂ _&&_ (ap (eqb w) (sym p)) (ap₂ (λ n k. leb (w + n) k) (sym q) (sym e))
+shaped-by s a h r m p q e count w = refl
 
 all-append : (p : Elem → Bool) (l r : List Elem) → all p (l ++ r) ≡ all p l && all p r
 unfolding all

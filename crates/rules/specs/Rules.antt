@@ -4,26 +4,17 @@ use mathlib.Core.Bool.{Bool, true, false, _&&_, _||_, cond}
 use Prim.Native.Nat.{ℕ, zero, suc, _+_}
 use lib.Dec.{eqb, ltb, leb}
 use Rattle.definitions.specs.Lists.{all}
-use Rattle.definitions.specs.Areas.{Words, N, Areas, Elem, at, wordOf}
+use Rattle.definitions.specs.Areas.{N, Areas, Elem, at, word}
 use Rattle.definitions.specs.Areas.{Arena, types, constants, overrides, globals, expressions}
 use Rattle.definitions.specs.Slots.{Slot, unused, free, below, must, may, start, count}
 use Rattle.definitions.specs.References.{namedBy}
 use Rattle.definitions.specs.Order.{sizedBy, withBehind}
-use Rattle.arena.specs.declared.sizes.Sizes.{Sizes}
-use Rattle.slots.specs.Part.{part}
+use Rattle.arena.specs.Sizes.{sizeIn}
 use Rattle.rules.specs.declared.Bounds.{Bounds}
 use Rattle.rules.specs.declared.Run.{Run}
 use Rattle.rules.specs.declared.Limits.{Limits}
 use Rattle.rules.specs.declared.Rule.{Rule}
 use Rattle.rules.specs.declared.Rule.the-variants.{Shaped, Held, Ordered}
-
--- how many records the arena has
-abbrev pub sizeIn : Sizes → Arena → ℕ
-sizeIn z types = z .types
-sizeIn z constants = z .constants
-sizeIn z overrides = z .overrides
-sizeIn z globals = z .globals
-sizeIn z expressions = z .expressions
 
 -- number 4: `shaped`, given the sum of the counts before, the record's own count and the pool's length
 unfoldable pub shapedBy : Run → Slot → ℕ → Bool
@@ -53,33 +44,33 @@ within b (at overrides h) = true
 within b (at globals h) = true
 within b (at expressions i) = b .«every_expression» || ltb i (b .expressions)
 
--- what a rule asks of a word; the constants, overrides and globals are what may stand behind it
-unfoldable pub asked : Words → Words → Words → Rule → Slot → ℕ → Bool
-asked c o g (Shaped r) l w = shapedBy r l w
-asked c o g (Held z) l w = heldBy (sizeIn z) l w
-asked c o g (Ordered b) l w = all (within b) (withBehind (part c o g) (namedBy l w))
+-- what a rule asks of a word of the module
+unfoldable pub asked : Areas → Rule → Slot → ℕ → Bool
+asked s (Shaped r) l w = shapedBy r l w
+asked s (Held z) l w = heldBy (sizeIn z) l w
+asked s (Ordered b) l w = all (within b) (withBehind s (namedBy l w))
 
 -- numbers 4 to 7 at once: a type and an init within the limits; unless it has to be there the init may be N
 abbrev pub typedFits : Limits → Bool → ℕ → ℕ → Bool
 typedFits l present t e = ltb t (l .types) && (cond present false (eqb e N) || ltb e (l .expressions))
 
 -- does an element, with all that stands behind it, lie within the limits ? No slot names a global
-unfoldable pub fitBy : Words → Words → Limits → Arena → ℕ → Bool
-fitBy c o l types h = ltb h (l .types)
-fitBy c o l constants h = ltb h (l .constants) && typedFits l true (wordOf c constants h 1) (wordOf c constants h 2)
-fitBy c o l overrides h = ltb h (l .overrides) && typedFits l false (wordOf o overrides h 1) (wordOf o overrides h 2)
-fitBy c o l globals h = false
-fitBy c o l expressions h = ltb h (l .expressions)
+unfoldable pub fitBy : Areas → Limits → Arena → ℕ → Bool
+fitBy s l types h = ltb h (l .types)
+fitBy s l constants h = ltb h (l .constants) && typedFits l true (word s constants h 1) (word s constants h 2)
+fitBy s l overrides h = ltb h (l .overrides) && typedFits l false (word s overrides h 1) (word s overrides h 2)
+fitBy s l globals h = false
+fitBy s l expressions h = ltb h (l .expressions)
 
 -- is a word good under each of the numbers ? Only the kinds of number 5 have free slots before the tag
-unfoldable pub goodBy : Words → Words → Limits → Slot → ℕ → Bool
-goodBy c o l unused w = eqb w N
-goodBy c o l free w = false
-goodBy c o l (below n) w = ltb w n
-goodBy c o l (must a) w = fitBy c o l a w
-goodBy c o l (may a) w = eqb w N || fitBy c o l a w
-goodBy c o l start w = eqb w (l .run .sum) && leb (w + l .run .span) (l .run .room)
-goodBy c o l count w = true
+unfoldable pub goodBy : Areas → Limits → Slot → ℕ → Bool
+goodBy s l unused w = eqb w N
+goodBy s l free w = false
+goodBy s l (below n) w = ltb w n
+goodBy s l (must a) w = fitBy s l a w
+goodBy s l (may a) w = eqb w N || fitBy s l a w
+goodBy s l start w = eqb w (l .run .sum) && leb (w + l .run .span) (l .run .room)
+goodBy s l count w = true
 
 -- the word of an unused slot
 unfoldable pub empty : Slot → ℕ → Bool

@@ -2,18 +2,20 @@
 ghost use mathlib.Core.Path.{_≡_};
 ghost use mathlib.Core.Bool.{true, false, _&&_, _||_};
 ghost use mathlib.Core.List.{[], _∷_};
-ghost use Prim.Native.Nat.{ℕ, _-_, _<_};
+ghost use Prim.Native.Nat.{ℕ, _-_};
 ghost use lib.Dec.{eqb, ltb};
-ghost use Rattle.definitions.specs.Areas.{Words, N, areasOf, numbered, width, wordOf, at, types, expressions};
-ghost use Rattle.definitions.specs.Lists.{all, always, total};
-ghost use Rattle.definitions.specs.Slots.{unused, body, slots};
+ghost use lib.ListN.{length};
+ghost use Rattle.definitions.specs.Areas.{N, Areas, numbered, constants, overrides, word, at, types, expressions, pool};
+ghost use Rattle.definitions.specs.Lists.{all};
+ghost use Rattle.definitions.specs.Slots.{unused, body, layout};
 ghost use Rattle.definitions.specs.References.{namedBy};
 ghost use Rattle.definitions.specs.Order.{withBehind, sizedBy};
-ghost use Rattle.definitions.specs.Refusals.{every};
+ghost use Rattle.definitions.specs.Refusals.{every, runsBefore};
+ghost use Rattle.arena.specs.Lent.{given, areasIn};
+ghost use Rattle.arena.specs.Sizes.{sizeIn};
 ghost use Rattle.arena.specs.Elements.{elementOf};
-ghost use Rattle.slots.specs.Codes.{decoded, unpacked, wordsFrom, arenaOf, slotOf, spanIn};
-ghost use Rattle.slots.specs.Part.{part};
-ghost use Rattle.rules.specs.Rules.{sizeIn, shapedBy, heldBy, within, asked, empty, fitBy, typedFits, goodBy, leading};
+ghost use Rattle.slots.specs.Codes.{decoded, unpacked, wordsFrom, arenaOf, slotOf};
+ghost use Rattle.rules.specs.Rules.{shapedBy, heldBy, within, asked, empty, fitBy, typedFits, goodBy, leading};
 use arena::CONSTANTS;
 use arena::Constant;
 use arena::ConstantHandle;
@@ -21,6 +23,7 @@ use arena::Element;
 use arena::ExpressionHandle;
 use arena::GLOBALS;
 use arena::Global;
+use arena::Module;
 use arena::N;
 use arena::OVERRIDES;
 use arena::Override;
@@ -118,76 +121,48 @@ fn init_within(b: Bounds, e: ExpressionHandle) -> bool
 }
 
 // Do an element and all that stands behind it lie within the bounds ?
-fn element_within(
-    b: Bounds,
-    x: Element,
-    constants: &[u32],
-    overrides: &[u32],
-    globals: &[u32],
-) -> bool
-    ensures { λ r. ⌜ r ≡ all (within b) (withBehind (part (now (constants .entry)) (now (overrides .entry)) (now (globals .entry))) (elementOf x ∷ [])) ⌝ }
+fn element_within(b: Bounds, x: Element, m: &Module) -> bool
+    ensures { λ r. ⌜ r ≡ all (within b) (withBehind (areasIn (given m)) (elementOf x ∷ [])) ⌝ }
 {
     match x {
         Element::Type(h) => type_within(b, h),
         Element::Constant(h) => {
-            type_within(b, Constant::ty(constants, h))
-                && expression_within(b, Constant::init(constants, h))
+            type_within(b, Constant::ty(m, h)) && expression_within(b, Constant::init(m, h))
         }
         Element::Override(h) => {
-            type_within(b, Override::ty(overrides, h))
-                && init_within(b, Override::init(overrides, h))
+            type_within(b, Override::ty(m, h)) && init_within(b, Override::init(m, h))
         }
-        Element::Global(h) => type_within(b, Global::ty(globals, h))
-            && init_within(b, Global::init(globals, h)),
+        Element::Global(h) => {
+            type_within(b, Global::ty(m, h)) && init_within(b, Global::init(m, h))
+        }
         Element::Expression(h) => expression_within(b, h),
     }
 }
 
-fn ordered(
-    b: Bounds,
-    slot: Slot,
-    w: u32,
-    constants: &[u32],
-    overrides: &[u32],
-    globals: &[u32],
-) -> bool
-    ensures { λ r. ⌜ r ≡ all (within b) (withBehind (part (now (constants .entry)) (now (overrides .entry)) (now (globals .entry))) (namedBy (slotOf slot) w)) ⌝ }
+fn ordered(b: Bounds, slot: Slot, w: u32, m: &Module) -> bool
+    ensures { λ r. ⌜ r ≡ all (within b) (withBehind (areasIn (given m)) (namedBy (slotOf slot) w)) ⌝ }
 {
     match slot {
-        Slot::Must(arena) => element_within(
-            b,
-            slots::element(arena, w),
-            constants,
-            overrides,
-            globals,
-        ),
-        Slot::May(arena) => w == N
-            || element_within(b, slots::element(arena, w), constants, overrides, globals),
+        Slot::Must(arena) => element_within(b, slots::element(arena, w), m),
+        Slot::May(arena) => w == N || element_within(b, slots::element(arena, w), m),
         _ => true,
     }
 }
 
 // Does a word keep the rule ?
-fn keeps(
-    rule: Rule,
-    slot: Slot,
-    w: u32,
-    constants: &[u32],
-    overrides: &[u32],
-    globals: &[u32],
-) -> bool
-    ensures { λ r. ⌜ r ≡ asked (now (constants .entry)) (now (overrides .entry)) (now (globals .entry)) rule (slotOf slot) w ⌝ }
+fn keeps(rule: Rule, slot: Slot, w: u32, m: &Module) -> bool
+    ensures { λ r. ⌜ r ≡ asked (areasIn (given m)) rule (slotOf slot) w ⌝ }
 {
     match rule {
         Rule::Shaped(run) => shaped(run, slot, w),
         Rule::Held(z) => held(z, slot, w),
-        Rule::Ordered(b) => ordered(b, slot, w, constants, overrides, globals),
+        Rule::Ordered(b) => ordered(b, slot, w, m),
     }
 }
 
 // May the words past the last named slot be passed over ? Only number 4 asks anything of them.
 fn lenient(rule: Rule) -> bool
-    ensures { λ r. ⌜ (r ≡ true → (c o g : Words) (w : ℕ) → asked c o g rule unused w ≡ true) ⌝ }
+    ensures { λ r. ⌜ (r ≡ true → (s : Areas) (w : ℕ) → asked s rule unused w ≡ true) ⌝ }
 {
     match rule {
         Rule::Shaped(_) => false,
@@ -196,17 +171,8 @@ fn lenient(rule: Rule) -> bool
 }
 
 // Do the first n words of the record that starts at a place keep the rule ?
-fn slots_keep(
-    rule: Rule,
-    ws: &[u32],
-    at: usize,
-    shape: u64,
-    n: usize,
-    constants: &[u32],
-    overrides: &[u32],
-    globals: &[u32],
-) -> bool
-    ensures { λ r. ⌜ r ≡ every (asked (now (constants .entry)) (now (overrides .entry)) (now (globals .entry)) rule) (wordsFrom (now (ws .entry)) at) 0 (unpacked shape n) ⌝ }
+fn slots_keep(rule: Rule, ws: &[u32], at: usize, shape: u64, n: usize, m: &Module) -> bool
+    ensures { λ r. ⌜ r ≡ every (asked (areasIn (given m)) rule) (wordsFrom (given ws) at) 0 (unpacked shape n) ⌝ }
 {
     let mut rest = shape;
     let mut k = 0;
@@ -214,14 +180,7 @@ fn slots_keep(
         if rest == 0 && lenient(rule) {
             return true;
         }
-        if !keeps(
-            rule,
-            slots::first(rest),
-            slots::word(ws, at, k),
-            constants,
-            overrides,
-            globals,
-        ) {
+        if !keeps(rule, slots::first(rest), slots::word(ws, at, k), m) {
             return false;
         }
         rest = rest / code::BASE;
@@ -230,56 +189,41 @@ fn slots_keep(
     true
 }
 
-// Do the words of record i keep the rule ?
-pub fn record_keeps(
-    rule: Rule,
-    area: u32,
-    ws: &[u32],
-    i: u32,
-    constants: &[u32],
-    overrides: &[u32],
-    globals: &[u32],
-) -> bool
-    ensures { λ r. ⌜ r ≡ every (asked (now (constants .entry)) (now (overrides .entry)) (now (globals .entry)) rule) (wordOf (now (ws .entry)) (numbered area) i) 0 (slots (numbered area) (wordOf (now (ws .entry)) (numbered area) i)) ⌝ }
+// Do the words of record i of an area keep the rule ?
+pub fn record_keeps(rule: Rule, area: u32, i: u32, m: &Module) -> bool
+    ensures { λ r. ⌜ r ≡ every (asked (areasIn (given m)) rule)
+        (word (areasIn (given m)) (numbered area) i) 0 (layout (areasIn (given m)) (numbered area) i) ⌝ }
 {
+    let ws = slots::arena_words(area, m);
     let width = slots::arena_width(area);
     let at = i as usize * width;
-    slots_keep(
-        rule,
-        ws,
-        at,
-        slots::shape(area, ws, at),
-        width - TAIL,
-        constants,
-        overrides,
-        globals,
-    )
+    slots_keep(rule, ws, at, slots::shape(area, ws, at), width - TAIL, m)
 }
 
 // Does a constant, with its type and its init, lie within the limits ?
-fn constant_fits(l: Limits, h: ConstantHandle, constants: &[u32]) -> bool
-    ensures { λ r. ⌜ r ≡ fitBy (now (constants .entry)) [] l (numbered 1) (h .0) ⌝ }
+fn constant_fits(l: Limits, h: ConstantHandle, m: &Module) -> bool
+    ensures { λ r. ⌜ r ≡ fitBy (areasIn (given m)) l constants (h .0) ⌝ }
 {
     if l.constants <= h.0 {
         return false;
     }
-    if l.types <= Constant::ty(constants, h).0 {
+    if l.types <= Constant::ty(m, h).0 {
         return false;
     }
-    Constant::init(constants, h).0 < l.expressions
+    Constant::init(m, h).0 < l.expressions
 }
 
 // And an override, which may have no init ?
-fn override_fits(l: Limits, h: OverrideHandle, overrides: &[u32]) -> bool
-    ensures { λ r. ⌜ r ≡ fitBy [] (now (overrides .entry)) l (numbered 2) (h .0) ⌝ }
+fn override_fits(l: Limits, h: OverrideHandle, m: &Module) -> bool
+    ensures { λ r. ⌜ r ≡ fitBy (areasIn (given m)) l overrides (h .0) ⌝ }
 {
     if l.overrides <= h.0 {
         return false;
     }
-    if l.types <= Override::ty(overrides, h).0 {
+    if l.types <= Override::ty(m, h).0 {
         return false;
     }
-    let init = Override::init(overrides, h).0;
+    let init = Override::init(m, h).0;
     if init == N {
         return true;
     }
@@ -287,14 +231,14 @@ fn override_fits(l: Limits, h: OverrideHandle, overrides: &[u32]) -> bool
 }
 
 // Is a word good under numbers 4 to 7 at once, by its slot's code ?
-fn slot_good(l: Limits, code: u64, w: u32, constants: &[u32], overrides: &[u32]) -> bool
-    ensures { λ r. ⌜ r ≡ goodBy (now (constants .entry)) (now (overrides .entry)) l (decoded code) w ⌝ }
+fn slot_good(l: Limits, code: u64, w: u32, m: &Module) -> bool
+    ensures { λ r. ⌜ r ≡ goodBy (areasIn (given m)) l (decoded code) w ⌝ }
 {
     match code {
         code::FREE => false,
         code::TYPE => w < l.types,
-        code::CONSTANT => constant_fits(l, ConstantHandle(w), constants),
-        code::OVERRIDE => override_fits(l, OverrideHandle(w), overrides),
+        code::CONSTANT => constant_fits(l, ConstantHandle(w), m),
+        code::OVERRIDE => override_fits(l, OverrideHandle(w), m),
         code::EXPRESSION => w < l.expressions,
         code::MAYBE => w == N || w < l.expressions,
         code::START => w as usize == l.run.sum && w as usize + l.run.span as usize <= l.run.room,
@@ -309,7 +253,7 @@ fn slot_good(l: Limits, code: u64, w: u32, constants: &[u32], overrides: &[u32])
 
 // Is each word from k on, up to n, of the record that starts at a place N ?
 fn blank(ws: &[u32], at: usize, k: usize, n: usize) -> bool
-    ensures { λ r. ⌜ r ≡ every empty (wordsFrom (now (ws .entry)) at) k (unpacked 0 (n - k)) ⌝ }
+    ensures { λ r. ⌜ r ≡ every empty (wordsFrom (given ws) at) k (unpacked 0 (n - k)) ⌝ }
 {
     let mut i = k;
     while i < n {
@@ -322,16 +266,8 @@ fn blank(ws: &[u32], at: usize, k: usize, n: usize) -> bool
 }
 
 // Are the first n words of the record that starts at a place good ?
-fn slots_good(
-    l: Limits,
-    ws: &[u32],
-    at: usize,
-    shape: u64,
-    n: usize,
-    constants: &[u32],
-    overrides: &[u32],
-) -> bool
-    ensures { λ r. ⌜ r ≡ every (goodBy (now (constants .entry)) (now (overrides .entry)) l) (wordsFrom (now (ws .entry)) at) 0 (unpacked shape n) ⌝ }
+fn slots_good(l: Limits, ws: &[u32], at: usize, shape: u64, n: usize, m: &Module) -> bool
+    ensures { λ r. ⌜ r ≡ every (goodBy (areasIn (given m)) l) (wordsFrom (given ws) at) 0 (unpacked shape n) ⌝ }
 {
     let mut rest = shape;
     let mut k = 0;
@@ -339,13 +275,7 @@ fn slots_good(
         if rest == 0 {
             return blank(ws, at, k, n);
         }
-        if !slot_good(
-            l,
-            rest % code::BASE,
-            slots::word(ws, at, k),
-            constants,
-            overrides,
-        ) {
+        if !slot_good(l, rest % code::BASE, slots::word(ws, at, k), m) {
             return false;
         }
         rest = rest / code::BASE;
@@ -356,7 +286,7 @@ fn slots_good(
 
 // Are a type and an init good, at their places in the record ? Unless it must be there the init may be N.
 fn typed_good(l: Limits, ws: &[u32], at: usize, ty: usize, init: usize, must: bool) -> bool
-    ensures { λ r. ⌜ r ≡ typedFits l must (wordsFrom (now (ws .entry)) at ty) (wordsFrom (now (ws .entry)) at init) ⌝ }
+    ensures { λ r. ⌜ r ≡ typedFits l must (wordsFrom (given ws) at ty) (wordsFrom (given ws) at init) ⌝ }
 {
     if l.types <= slots::word(ws, at, ty) {
         return false;
@@ -369,15 +299,9 @@ fn typed_good(l: Limits, ws: &[u32], at: usize, ty: usize, init: usize, must: bo
 }
 
 // Are all words of the record that starts at a place good, but its tag ?
-pub fn record_good(
-    l: Limits,
-    area: u32,
-    ws: &[u32],
-    at: usize,
-    constants: &[u32],
-    overrides: &[u32],
-) -> bool
-    ensures { λ r. ⌜ r ≡ every (goodBy (now (constants .entry)) (now (overrides .entry)) l) (wordsFrom (now (ws .entry)) at) 0 (body (numbered area) (wordsFrom (now (ws .entry)) at)) ⌝ }
+pub fn record_good(l: Limits, area: u32, ws: &[u32], at: usize, m: &Module) -> bool
+    ensures { λ r. ⌜ r ≡ every (goodBy (areasIn (given m)) l)
+        (wordsFrom (given ws) at) 0 (body (numbered area) (wordsFrom (given ws) at)) ⌝ }
 {
     match area {
         CONSTANTS => {
@@ -395,15 +319,14 @@ pub fn record_good(
             at,
             slots::shape(area, ws, at),
             slots::arena_width(area) - TAIL,
-            constants,
-            overrides,
+            m,
         ),
     }
 }
 
 // Are all handles of a run below the bound ?
 pub fn all_below(run: &[u32], bound: u32) -> bool
-    ensures { λ r. ⌜ r ≡ all (λ w. ltb w bound) (now (run .entry)) ⌝ }
+    ensures { λ r. ⌜ r ≡ all (λ w. ltb w bound) (given run) ⌝ }
 {
     let mut i = 0;
     while i < run.len() {
@@ -415,12 +338,14 @@ pub fn all_below(run: &[u32], bound: u32) -> bool
     true
 }
 
-// Do the counts of the runs of the first n records of an arena add up to the pool's length ?
-pub fn pool_used(area: u32, ws: &[u32], n: u32, room: usize) -> bool
-    ensures { λ r. ⌜ r ≡ eqb (total always (λ h. spanIn (numbered area) (wordOf (now (ws .entry)) (numbered area) h)) n) room ⌝ }
+// Do the counts of the runs of the first n records of an arena add up to its pool's length ?
+pub fn pool_used(area: u32, n: u32, m: &Module) -> bool
+    ensures { λ r. ⌜ r ≡ eqb (runsBefore (areasIn (given m)) (numbered area) n)
+        (length (pool (areasIn (given m)) (numbered area))) ⌝ }
 {
+    let ws = slots::arena_words(area, m);
     let width = slots::arena_width(area);
-    let mut left = room;
+    let mut left = slots::arena_pool(area, m).len();
     let mut i = 0;
     while i < n {
         let span = slots::span(area, ws, i as usize * width) as usize;
@@ -434,11 +359,11 @@ pub fn pool_used(area: u32, ws: &[u32], n: u32, room: usize) -> bool
 }
 
 // One more than the init of the override that sizes type t; 0 where there is none.
-pub fn sized(types: &[u32], overrides: &[u32], t: TypeHandle) -> usize
-    ensures { λ r. ⌜ r ≡ sizedBy (areasOf (now (types .entry)) [] (now (overrides .entry)) [] [] [] [] []) (t .0) ⌝ }
+pub fn sized(t: TypeHandle, m: &Module) -> usize
+    ensures { λ r. ⌜ r ≡ sizedBy (areasIn (given m)) (t .0) ⌝ }
 {
-    if Type::kind(types, t) == 2 {
-        let init = Override::init(overrides, OverrideHandle(Type::b(types, t)));
+    if Type::kind(m, t) == 2 {
+        let init = Override::init(m, OverrideHandle(Type::b(m, t)));
         if init.0 == N {
             return 0;
         }
@@ -448,12 +373,12 @@ pub fn sized(types: &[u32], overrides: &[u32], t: TypeHandle) -> usize
 }
 
 // From type t on, the first of n types that is sized by an override with an init not below expression e.
-pub fn prefix(types: &[u32], overrides: &[u32], t: u32, n: u32, e: u32) -> u32
-    ensures { λ r. ⌜ r ≡ leading (areasOf (now (types .entry)) [] (now (overrides .entry)) [] [] [] [] []) e t (n - t) ⌝ }
+pub fn prefix(t: u32, n: u32, e: u32, m: &Module) -> u32
+    ensures { λ r. ⌜ r ≡ leading (areasIn (given m)) e t (n - t) ⌝ }
 {
     let mut u = t;
     while u < n {
-        if (e as usize) < sized(types, overrides, TypeHandle(u)) {
+        if (e as usize) < sized(TypeHandle(u), m) {
             return u;
         }
         u += 1;

@@ -1,20 +1,19 @@
 -- What is asked of all slots of a record can be asked of its shape.
 -- Assumes nothing.
-use mathlib.Core.Path.{_≡_, refl, sym, ap, ap₂, _∙_}
+use mathlib.Core.Path.{_≡_, refl, sym, ap, _∙_}
 use mathlib.Core.Bool.{Bool, true, _&&_}
 use mathlib.Core.List.{List, [], _∷_, _++_, append-assoc}
 use Prim.Native.Nat.{ℕ, zero, suc, _+_, _≤_}
 use native.Mathlib.Nat.{le-of-suc-le-suc, not-suc-le-zero}
 use native.Mathlib.Omega.{arith}
 use lib.ListN.{length, take, drop, length-append}
-use Rattle.definitions.specs.Areas.{Areas, Arena, Elem, at, words, types, constants, overrides, globals, expressions, width, word, pool}
-use Rattle.definitions.specs.Slots.{Slot, unused, free, fill, body, tag, slots, layout}
-use Rattle.definitions.specs.References.{hasRun, span, run, namedBy, namedFrom, references}
+use Rattle.definitions.specs.Areas.{Areas, Arena, Elem, types, constants, overrides, globals, expressions, width, word, pool}
+use Rattle.definitions.specs.Slots.{Slot, unused, free, fill, body, tag, slots}
+use Rattle.definitions.specs.References.{hasRun, span, run, namedBy, namedFrom}
 use Rattle.definitions.specs.Order.{behind, withBehind}
 use Rattle.definitions.specs.Refusals.{every}
 use Rattle.definitions.proofs.Reading.{length-slots}
 use Rattle.slots.specs.Codes.{packed, unpacked, decoded, codes, spanIn, runIn}
-use Rattle.slots.specs.Part.{part}
 use Rattle.slots.proofs.Packing.{packed-body}
 
 -- a body has one word less than the record, its tag
@@ -100,21 +99,7 @@ pub run-in : (s : Areas) (a : Arena) (h : ℕ) → run s a h ≡ runIn a (word s
 unfolding run runIn
 run-in s a h = ap (λ n. take n (drop (word s a h 2) (pool s a))) (span-in s a h)
 
--- what stands behind an element stands in three arenas
-behind-of : (s : Areas) (x : Elem) → behind s x ≡ behind (part (s .constants) (s .overrides) (s .globals)) x
-unfolding behind references layout word words run span hasRun pool
-behind-of s (at types h) = refl
-behind-of s (at constants h) = refl
-behind-of s (at overrides h) = refl
-behind-of s (at globals h) = refl
-behind-of s (at expressions h) = refl
-
-pub behind-part : (s : Areas) (xs : List Elem) → withBehind s xs ≡ withBehind (part (s .constants) (s .overrides) (s .globals)) xs
-unfolding withBehind
-behind-part s [] = refl
-behind-part s (x ∷ xs) = ap₂ (λ l r. x ∷ (l ++ r)) (behind-of s x) (behind-part s xs)
-
--- and behind some elements and then more
+-- what stands behind some elements and then more
 pub behind-append : (s : Areas) (l r : List Elem) → withBehind s (l ++ r) ≡ withBehind s l ++ withBehind s r
 unfolding withBehind
 behind-append s [] r = refl

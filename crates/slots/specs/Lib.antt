@@ -1,3 +1,2 @@
 -- What the contracts cite besides the definitions of document 01.
 pub mod Codes
-pub mod Part

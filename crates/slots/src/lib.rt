@@ -5,19 +5,25 @@ mod shapes;
 ghost use mathlib.Core.Path.{_≡_};
 ghost use Prim.Native.Nat.{_+_, _%_};
 ghost use lib.ListN.{getD};
-ghost use Rattle.definitions.specs.Areas.{numbered, at, width};
+ghost use mathlib.Core.List.{[]};
+ghost use Rattle.definitions.specs.Areas.{numbered, at, width, words, pool};
 ghost use Rattle.definitions.specs.Slots.{formOf, body};
 ghost use Rattle.slots.specs.Codes.{decoded, packed, arenaOf, slotOf, wordsFrom, spanIn, runIn};
+ghost use Rattle.arena.specs.Lent.{given, areasIn};
 ghost use Rattle.arena.specs.Elements.{elementOf};
+use arena::COMPONENTS;
 use arena::CONSTANTS;
 use arena::Constant;
 use arena::ConstantHandle;
+use arena::EXPRESSIONS;
 use arena::Element;
 use arena::Expression;
 use arena::ExpressionHandle;
 use arena::GLOBALS;
 use arena::Global;
 use arena::GlobalHandle;
+use arena::MEMBERS;
+use arena::Module;
 use arena::OVERRIDES;
 use arena::Override;
 use arena::OverrideHandle;
@@ -62,7 +68,7 @@ pub fn element(arena: Arena, h: u32) -> Element
 
 // Word k of the record that starts at a place; 0 past the end.
 pub fn word(ws: &[u32], at: usize, k: usize) -> u32
-    ensures { λ r. ⌜ r ≡ getD (now (ws .entry)) (at + k) 0 ⌝ }
+    ensures { λ r. ⌜ r ≡ getD (given ws) (at + k) 0 ⌝ }
 {
     if at < ws.len() {
         if k < ws.len() - at {
@@ -95,7 +101,7 @@ pub fn first(shape: u64) -> Slot
 
 // The form of an expression, where it is an `ImageSample` or an `ImageQuery`.
 fn form(ws: &[u32], at: usize) -> u32
-    ensures { λ r. ⌜ r ≡ formOf (wordsFrom (now (ws .entry)) at) ⌝ }
+    ensures { λ r. ⌜ r ≡ formOf (wordsFrom (given ws) at) ⌝ }
 {
     let kind = word(ws, at, Expression::KIND);
     if kind == 15 {
@@ -109,7 +115,7 @@ fn form(ws: &[u32], at: usize) -> u32
 
 // The slots of the body of the record that starts at a place, by its area.
 pub fn shape(area: u32, ws: &[u32], at: usize) -> u64
-    ensures { λ r. ⌜ r ≡ packed (body (numbered area) (wordsFrom (now (ws .entry)) at)) ⌝ }
+    ensures { λ r. ⌜ r ≡ packed (body (numbered area) (wordsFrom (given ws) at)) ⌝ }
 {
     match area {
         TYPES => shapes::type_shape(word(ws, at, Type::KIND)),
@@ -122,7 +128,7 @@ pub fn shape(area: u32, ws: &[u32], at: usize) -> u64
 
 // The count of the run of the record that starts at a place; 0 without one.
 pub fn span(area: u32, ws: &[u32], at: usize) -> u32
-    ensures { λ r. ⌜ r ≡ spanIn (numbered area) (wordsFrom (now (ws .entry)) at) ⌝ }
+    ensures { λ r. ⌜ r ≡ spanIn (numbered area) (wordsFrom (given ws) at) ⌝ }
 {
     match area {
         TYPES => {
@@ -142,7 +148,7 @@ pub fn span(area: u32, ws: &[u32], at: usize) -> u32
 
 // The run of the record that starts at a place, as part of its pool.
 pub fn run<'a>(area: u32, ws: &[u32], at: usize, pool: &'a [u32]) -> &'a [u32]
-    ensures { λ r. ⌜ now r ≡ runIn (numbered area) (wordsFrom (now (ws .entry)) at) (now (pool .entry)) ⌝ }
+    ensures { λ r. ⌜ now r ≡ runIn (numbered area) (wordsFrom (given ws) at) (given pool) ⌝ }
 {
     let start = least(word(ws, at, shapes::RUN_START) as usize, pool.len());
     let end = least(
@@ -175,5 +181,33 @@ pub fn arena_width(area: u32) -> usize
         OVERRIDES => Override::WIDTH,
         GLOBALS => Global::WIDTH,
         _ => Expression::WIDTH,
+    }
+}
+
+// Its words, in a module that is only read.
+pub fn arena_words<'a>(area: u32, m: &Module<'a>) -> &'a [u32]
+    ensures { λ r. ⌜ now r ≡ words (areasIn (given m)) (numbered area) ⌝ }
+{
+    if area < EXPRESSIONS {
+        return m[area as usize];
+    }
+    m[EXPRESSIONS as usize]
+}
+
+// No words.
+fn none<'a>(ws: &'a [u32]) -> &'a [u32]
+    ensures { λ r. ⌜ now r ≡ [] ⌝ }
+{
+    &ws[0..0]
+}
+
+// The pool that its runs lie in; empty for an arena without runs.
+pub fn arena_pool<'a>(area: u32, m: &Module<'a>) -> &'a [u32]
+    ensures { λ r. ⌜ now r ≡ pool (areasIn (given m)) (numbered area) ⌝ }
+{
+    match area {
+        TYPES => m[MEMBERS as usize],
+        CONSTANTS..=GLOBALS => none(m[MEMBERS as usize]),
+        _ => m[COMPONENTS as usize],
     }
 }

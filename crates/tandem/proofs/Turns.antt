@@ -3,20 +3,19 @@
 use mathlib.Core.Path.{_≡_, refl, sym, ap, ap₂, _∙_}
 use mathlib.Core.Logic.{_⊎_, inl, inr}
 use mathlib.Core.List.{List, [], _∷_}
-use Prim.Native.Nat.{ℕ, zero, suc, _+_, _*_, _-_, _≤_, _<_, max}
+use Prim.Native.Nat.{ℕ, zero, suc, _+_, _*_, _-_, _≤_, _<_}
 use native.Mathlib.Omega.{arith}
 use lib.ListN.{length, take, drop}
 use lib.Seq.{take-nil, drop-nil}
-use Rattle.definitions.specs.Areas.{Areas, at, numbered, types, expressions}
-use Rattle.definitions.specs.Order.{falling, pastDep, visits}
+use Rattle.definitions.specs.Areas.{Areas, at, types, expressions}
+use Rattle.definitions.specs.Order.{falling, visits}
 use Rattle.definitions.proofs.Tandem.{next-expression, next-type, next-rest}
 use Rattle.arena.specs.HandleSet.{member, room}
 use Rattle.arena.specs.declared.handle_set.Bases.{Bases}
-use Rattle.rules.proofs.Laws.{sized-part}
-use Rattle.trace.specs.Bits.{Holds, visitBits, sweepBits}
+use Rattle.trace.specs.Bits.{visitBits, Visited, sweepBits, Swept}
 use Rattle.tandem.specs.declared.Left.{Left}
-use Rattle.tandem.specs.Deps.{sizing, depBefore}
-use Rattle.tandem.specs.Visited.{ahead, Visited}
+use Rattle.tandem.specs.Deps.{depBefore}
+use Rattle.tandem.specs.Visited.{ahead, OneVisit}
 
 -- where no expression is above dep, and something is left, a type is
 pub some-type : (s : Areas) (t e : ℕ) {d : ℕ} → d ≡ depBefore s t → e ≤ d → 0 < t + e → 0 < t
@@ -25,17 +24,6 @@ some-type s zero e q l p = absurd (omega arith)
 some-type s (suc t) e q l p = omega arith
 
 module _ (s : Areas) where
-  pastDep-part : (t : ℕ) → pastDep s t ≡ pastDep (sizing (s .types) (s .overrides)) t
-  unfolding pastDep
-  pastDep-part zero = sized-part s zero
-  pastDep-part (suc t) = ap₂ max (pastDep-part t) (sized-part s (suc t))
-
-  -- dep looks at types and overrides alone
-  dep-part : (t : ℕ) → depBefore s t ≡ depBefore (sizing (s .types) (s .overrides)) t
-  unfolding depBefore
-  dep-part zero = refl
-  dep-part (suc t) = pastDep-part t
-
   an-expression : (t e : ℕ) → depBefore s t ≤ e → visits s t (suc e) ≡ at expressions e ∷ visits s t e
   unfolding depBefore
   an-expression zero e l = next-rest s e
@@ -57,35 +45,32 @@ module _ (s : Areas) where
 
   module _ (b : Bases) where
     -- the youngest expression is visited where it is above dep
-    pub visit-expression : (t e : ℕ) {d : ℕ} {before after : List ℕ} → d ≡ depBefore (sizing (s .types) (s .overrides)) t → d < e
-        → Holds before (visitBits s b (room before) (member before) (at (numbered 4) (e - 1))) after
-        → Visited s b (record { types = t; expressions = e }) (record { types = t; expressions = e - 1 }) before after
-    unfolding numbered
+    pub visit-expression : (t e : ℕ) {d : ℕ} {before after : List ℕ} → d ≡ depBefore s t → d < e
+        → Visited s b (at expressions (e - 1)) before after
+        → OneVisit s b (record { types = t; expressions = e }) (record { types = t; expressions = e - 1 }) before after
     visit-expression t e q l h =
         let z : e ≡ suc (e - 1) = omega arith in
         record {
           element = at expressions (e - 1);
-          next = ap (visits s t) z ∙ an-expression t (e - 1) (omega (arith, dep-part t, q));
+          next = ap (visits s t) z ∙ an-expression t (e - 1) (omega (arith, q));
           marked = h;
           fewer = omega arith;
         }
 
     -- else the youngest type
-    pub visit-type : (t e : ℕ) {d : ℕ} {before after : List ℕ} → d ≡ depBefore (sizing (s .types) (s .overrides)) t → e ≤ d → 0 < t + e
-        → Holds before (visitBits s b (room before) (member before) (at (numbered 0) (t - 1))) after
-        → Visited s b (record { types = t; expressions = e }) (record { types = t - 1; expressions = e }) before after
-    unfolding numbered
+    pub visit-type : (t e : ℕ) {d : ℕ} {before after : List ℕ} → d ≡ depBefore s t → e ≤ d → 0 < t + e
+        → Visited s b (at types (t - 1)) before after
+        → OneVisit s b (record { types = t; expressions = e }) (record { types = t - 1; expressions = e }) before after
     visit-type t e q l p h = record {
       element = at types (t - 1);
-      next = a-type t e (some-type (sizing (s .types) (s .overrides)) t e q l p) (omega (arith, dep-part t, q));
+      next = a-type t e (some-type s t e q l p) (omega (arith, q));
       marked = h;
       fewer = omega arith;
     }
 
     -- what the contract says of the answer and of the marks
-    abbrev pub Swept : Left → ℕ → List ℕ → Left → List ℕ → Type 0
-    Swept start budget before left after =
-        (ahead s left ≡ drop budget (ahead s start)) × Holds before (sweepBits s b (room before) (take budget (ahead s start)) (member before)) after
+    abbrev pub Pass : Left → ℕ → List ℕ → Left → List ℕ → Type 0
+    Pass start budget before left after = (ahead s left ≡ drop budget (ahead s start)) × Swept s b (take budget (ahead s start)) before after
 
     -- n visits more make of the marks now what the budget makes of the marks at the start, and leave what the budget leaves
     pub record Turns (start : Left) (budget : ℕ) (before : List ℕ) (left : Left) (n : ℕ) (now : List ℕ) : Type 0 where
@@ -100,7 +85,7 @@ module _ (s : Areas) where
 
     -- one is made
     pub one-visit : {start left rest : Left} {budget n : ℕ} {before now after : List ℕ}
-        → 0 < n → Visited s b left rest now after → Turns start budget before left n now → Turns start budget before rest (n - 1) after
+        → 0 < n → OneVisit s b left rest now after → Turns start budget before left n now → Turns start budget before rest (n - 1) after
     unfolding sweepBits
     one-visit {rest = rest} {n = n} {before = before} {now = now} {after = after} p v w =
         let z : suc (n - 1) ≡ n = omega arith in
@@ -118,7 +103,7 @@ module _ (s : Areas) where
 
     -- the budget is used up, or the visits are
     pub at-end : {start left : Left} {budget n : ℕ} {before now : List ℕ} → (n ≡ 0) ⊎ (left .types + left .expressions ≡ 0)
-        → Turns start budget before left n now → Swept start budget before left now
+        → Turns start budget before left n now → Pass start budget before left now
     unfolding sweepBits
     at-end {left = left} {n = n} {before = before} {now = now} z w =
         let e = no-more n (left .types) (left .expressions) z in (

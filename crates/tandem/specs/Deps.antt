@@ -1,15 +1,11 @@
 -- dep over blocks of types.
 -- Assumes nothing.
 use mathlib.Core.Path.{_≡_}
-use mathlib.Core.List.{List, []}
+use mathlib.Core.List.{List}
 use Prim.Native.Nat.{ℕ, zero, suc, _+_, _*_, _<_}
 use lib.ListN.{length, getD}
-use Rattle.definitions.specs.Areas.{Words, Areas, areasOf}
+use Rattle.definitions.specs.Areas.{Areas}
 use Rattle.definitions.specs.Order.{pastDep}
-
--- the module of types and overrides alone, which is all that dep looks at
-abbrev pub sizing : Words → Words → Areas
-sizing ts os = areasOf ts [] os [] [] [] [] []
 
 -- one more than the largest init among the overrides that size one of the first t types; 0 for none
 unfoldable pub depBefore : Areas → ℕ → ℕ

@@ -3,29 +3,19 @@
 use mathlib.Core.Path.{_≡_, refl, sym, ap, ap₂, subst, _∙_}
 use mathlib.Core.List.{List, [], _∷_, _++_, map, map-append, append-nil}
 use Prim.Native.Nat.{ℕ}
-use Rattle.definitions.specs.Areas.{Areas, Elem, at, types, constants, overrides, globals, expressions, wordOf, word, words}
+use Rattle.definitions.specs.Areas.{Areas, Elem, at, types, constants, overrides, globals, expressions, word}
 use Rattle.definitions.specs.Slots.{may, slots, body, layout}
 use Rattle.definitions.specs.References.{hasRun, span, run, namedBy, namedFrom, references}
 use Rattle.definitions.specs.Order.{behind, withBehind}
 use Rattle.arena.specs.HandleSet.{bit, Inserted}
 use Rattle.arena.specs.declared.handle_set.Bases.{Bases}
-use Rattle.slots.specs.Part.{part}
-use Rattle.slots.proofs.Laws.{behind-append, behind-part}
+use Rattle.slots.proofs.Laws.{behind-append}
 use Rattle.trace.specs.Bits.{bitsOf, Put, Marked}
 use Rattle.trace.proofs.Sets.{put-none, put-one, put-more, Left, left-turn, left-done}
 
 pub bits-append : (s : Areas) (b : Bases) (l r : List Elem) → bitsOf s b (l ++ r) ≡ bitsOf s b l ++ bitsOf s b r
 unfolding bitsOf
 bits-append s b l r = ap (map (bit b)) (behind-append s l r) ∙ map-append (bit b) (withBehind s l) (withBehind s r)
-
--- what is marked with elements stands in three arenas
-pub bits-part : (s : Areas) (b : Bases) (xs : List Elem) → bitsOf (part (s .constants) (s .overrides) (s .globals)) b xs ≡ bitsOf s b xs
-unfolding bitsOf
-bits-part s b xs = ap (map (bit b)) (sym (behind-part s xs))
-
-pub marked-part : (s : Areas) (b : Bases) (xs : List Elem) {v u : List ℕ} → Marked (part (s .constants) (s .overrides) (s .globals)) b xs v u
-    → Marked s b xs v u
-marked-part s b xs {v} {u} = subst (λ is. Put is v u) (bits-part s b xs)
 
 -- the same elements in other words
 pub marked-as : (s : Areas) (b : Bases) {xs ys : List Elem} {v u : List ℕ} → xs ≡ ys → Marked s b ys v u → Marked s b xs v u
@@ -69,7 +59,7 @@ module _ (s : Areas) (b : Bases) (h : ℕ) {v u : List ℕ} where
 
 -- opens what is marked with an element
 opened : ℕ
-unfolding behind references namedFrom namedBy layout slots body word words run span hasRun
+unfolding behind references namedFrom namedBy layout slots body run span hasRun
 opened = 0
 
 -- an init that may be there, with nothing after it
@@ -78,17 +68,17 @@ may-nil p q = simp append-nil (sym (ap₂ (λ t e. at types t ∷ namedBy (may e
 
 module _ (s : Areas) (h : ℕ) {t e : ℕ} where
   -- a type and an init, each as it was read
-  pub behind-constant : t ≡ wordOf (s .constants) constants h 1 → e ≡ wordOf (s .constants) constants h 2
+  pub behind-constant : t ≡ word s constants h 1 → e ≡ word s constants h 2
       → behind s (at constants h) ≡ at types t ∷ at expressions e ∷ []
   unfolding opened
   behind-constant p q = sym (ap₂ (λ t e. at types t ∷ at expressions e ∷ []) p q)
 
-  pub behind-override : t ≡ wordOf (s .overrides) overrides h 1 → e ≡ wordOf (s .overrides) overrides h 2
+  pub behind-override : t ≡ word s overrides h 1 → e ≡ word s overrides h 2
       → behind s (at overrides h) ≡ at types t ∷ namedBy (may expressions) e
   unfolding opened
   behind-override p q = may-nil p q
 
-  pub behind-global : t ≡ wordOf (s .globals) globals h 0 → e ≡ wordOf (s .globals) globals h 1
+  pub behind-global : t ≡ word s globals h 0 → e ≡ word s globals h 1
       → behind s (at globals h) ≡ at types t ∷ namedBy (may expressions) e
   unfolding opened
   behind-global p q = may-nil p q

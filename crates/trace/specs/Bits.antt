@@ -45,10 +45,18 @@ Marked s b xs before after = Put (bitsOf s b xs) before after
 unfoldable pub visitBits : Areas → Bases → ℕ → (ℕ → Bool) → Elem → ℕ → Bool
 visitBits s b n p x = cond (p (bit b x)) (added n (bitsOf s b (references s x)) p) p
 
+-- the words after one visit
+abbrev pub Visited : Areas → Bases → Elem → List ℕ → List ℕ → Type 0
+Visited s b x before after = Holds before (visitBits s b (room before) (member before) x) after
+
 -- some visits in turn
 unfoldable pub sweepBits : Areas → Bases → ℕ → List Elem → (ℕ → Bool) → ℕ → Bool
 sweepBits s b n [] p = p
 sweepBits s b n (x ∷ xs) p = sweepBits s b n xs (visitBits s b n p x)
+
+-- the words after them
+abbrev pub Swept : Areas → Bases → List Elem → List ℕ → List ℕ → Type 0
+Swept s b xs before after = Holds before (sweepBits s b (room before) xs (member before)) after
 
 -- which records of an arena are roots by themselves: of constants in both modes, of the others with Yes
 unfoldable pub rootIn : Areas → Arena → ℕ → Bool

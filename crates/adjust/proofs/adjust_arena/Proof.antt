@@ -9,7 +9,7 @@ use lib.ListN.{length}
 use Rattle.definitions.specs.Areas.{numbered}
 use Rattle.definitions.specs.Outcome.{mapOf}
 use Rattle.definitions.proofs.Reading.{width-pos}
-use Rattle.adjust.specs.Rewrite.{mapsOf}
+use Rattle.arena.specs.Lent.{mapsOf}
 use Rattle.adjust.proofs.Passes.{Rewriting, rewriting, within, record-dropped, record-kept, rewritten}
 use borrow.Author.Needs.{needs}
 use Rattle.adjust.proofs.adjust_arena.Statement.{statement}

@@ -14,7 +14,8 @@ use Rattle.definitions.specs.Outcome.{Maps, mapOf}
 use Rattle.slots.specs.Codes.{wordsFrom}
 use Rattle.slots.proofs.Decision.{at-keys}
 use Rattle.slots.proofs.Laws.{body-shape}
-use Rattle.adjust.specs.Rewrite.{mapsOf, adjustedBy, initBy, typedBy, recordFrom}
+use Rattle.arena.specs.Lent.{mapsOf}
+use Rattle.adjust.specs.Rewrite.{adjustedBy, initBy, typedBy, recordFrom}
 use Rattle.adjust.proofs.adjust_body.Statement.{statement}
 use Rattle.adjust.proofs.adjust_body.Tie as tie
 

@@ -3,7 +3,7 @@
 use Prim.Native.Nat.{_-_}
 use native.Mathlib.Omega.{arith}
 use lib.ListN.{length}
-use Rattle.adjust.specs.Rewrite.{mapsOf}
+use Rattle.arena.specs.Lent.{mapsOf}
 use Rattle.adjust.proofs.Passes.{Renaming, renaming, mention-renamed, renamed}
 use borrow.Author.Needs.{needs}
 use Rattle.adjust.proofs.adjust_mentions.Statement.{statement}

@@ -12,7 +12,8 @@ use Rattle.definitions.specs.Areas.{Words}
 use Rattle.definitions.specs.Slots.{Slot}
 use Rattle.definitions.specs.Outcome.{Maps}
 use Rattle.slots.specs.Codes.{decoded, unpacked, wordsFrom}
-use Rattle.adjust.specs.Rewrite.{mapsOf, adjustedBy, recordFrom}
+use Rattle.arena.specs.Lent.{mapsOf}
+use Rattle.adjust.specs.Rewrite.{adjustedBy, recordFrom}
 use Rattle.adjust.proofs.Stores.{Storing, none-stored, one-stored, all-stored}
 use borrow.Author.Needs.{needs}
 use Rattle.adjust.proofs.adjust_record.Statement.{statement}

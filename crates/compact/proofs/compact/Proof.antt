@@ -1,15 +1,13 @@
 -- `compact` meets its contract: one law for each return, over what the stages leave.
 -- Assumes nothing.
-use mathlib.Core.Path.{_≡_, refl}
+use mathlib.Core.Path.{refl}
 use native.Mathlib.Omega.{arith}
 use lib.Dec.{T}
 use Rattle.definitions.specs.Areas.{Areas, areasOf}
 use Rattle.definitions.specs.Refusals.{check, passes}
 use Rattle.definitions.specs.Outcome.{Maps, lengths}
-use Rattle.arena.specs.Sizes.{sizesOf}
-use Rattle.adjust.specs.Rewrite.{mapsOf}
-use Rattle.compact.proofs.Marking.{sizes-are}
-use Rattle.compact.proofs.Close.{refused-closes, passed, bases-due, rooms, members-few, components-few, whole-closes, accepted-closes}
+use Rattle.arena.specs.Lent.{mapsOf}
+use Rattle.compact.proofs.Close.{refused-closes, passed, rooms, members-few, components-few, whole-closes, accepted-closes}
 use borrow.Author.Needs.{needs}
 use Rattle.compact.proofs.compact.Statement.{statement}
 use Rattle.compact.proofs.compact.Tie as tie
@@ -21,20 +19,23 @@ Given d = areasOf (d .args .types .now) (d .args .constants .now) (d .args .over
 abbrev Lent : tie.Start → Maps
 Lent d = mapsOf (d .args .type-map .now) (d .args .constant-map .now) (d .args .override-map .now) (d .args .global-map .now) (d .args .expression-map .now)
 
--- the entry, from where the sizes are counted
-abbrev start : tie.After-of → tie.Start
-start c = c .before .before .before .before .before .before .before .before .before .before .before .before .before .before .before .before .before .before .before .before .before .before .before .before .before .before .before .before .before .before .before .before .before .before .before .before
+-- the entry, from where the verdict is told
+abbrev start : tie.After-enum-told → tie.Start
+start c = c .before .before .before .before .before .before .before .before .before .before .before .before .before .before .before .before .before .before .before .before .before .before .before .before .before .before .before .before .before
 
 -- the module was accepted
-accepts : (c : tie.After-of) → T (passes (check (Given (start c)) (lengths (Lent (start c)))))
+accepts : (c : tie.After-enum-told) → T (passes (check (Given (start c)) (lengths (Lent (start c)))))
 unfolding lengths
 accepts c =
-    let v = c .before .before .before .before .before .before .before .before .before .check in
-    passed (Given (start c)) (Lent (start c)) (v .result) (v .ensures) (c .before .before .before .before .before .before .before .enum-told .given .1)
+    let v = c .before .before .check in
+    passed (Given (start c)) (Lent (start c)) (v .result) (v .ensures) (c .enum-told .given .1)
 
--- and the counts are its sizes
-sizes : (c : tie.After-of) → c .of .result ≡ sizesOf (Given (start c))
-sizes c = sizes-are (Given (start c)) (lengths (Lent (start c)), accepts c) (c .of .ensures)
+-- from where the maps are made, the place where the verdict is told and the marking
+abbrev told : tie.After-slice-known18 → tie.After-enum-told
+told c = c .before .before .before .before .before .before .before .before .before .before .before .before .before .before .before .before .before .before .before .before .before .before .before .before .before .before .before .before .before .before .before .before .before .before .before .before .before .before
+
+abbrev marked : tie.After-slice-known18 → tie.After-mark
+marked c = c .before .before .before .before .before .before .before .before .before .before .before .before .before .before .before .before .before .before .before .before .before .before .before .before .before .before .before
 
 check-requires : tie.Need-check-requires
 check-requires c κs = search needs
@@ -93,9 +94,6 @@ enum-told c = search needs
 of-requires : tie.Need-of-requires
 of-requires c κs = search needs
 
-of-requires-2 : tie.Need-of-requires-2
-of-requires-2 c κs = search needs
-
 slice-aggregate-mark : tie.Need-slice-aggregate-mark
 slice-aggregate-mark c = search needs
 
@@ -105,10 +103,8 @@ keeps-requires c κs = search needs
 mark-requires : tie.Need-mark-requires
 unfolding lengths
 mark-requires c κs =
-    let m = c .before .before .before .before .before .before .before .before .before .before .before in
-    let d = start m in
-    let z = sizes m in
-    ((lengths (Lent d), accepts m), z, bases-due (Given d) _ _ z (c .before .before .before .before .before .before .before .before .before .before .of2 .ensures), refl)
+    let j = c .before .before .before .before .before .before .before .before .before .before in
+    ((lengths (Lent (start j)), accepts j), refl)
 
 slice-aggregate-from-set : tie.Need-slice-aggregate-from-set
 slice-aggregate-from-set c = search needs
@@ -140,22 +136,20 @@ slice-aggregate-from-set-5 c = search needs
 from-set-requires-5 : tie.Need-from-set-requires-5
 from-set-requires-5 c κs = search needs
 
+cast-t94 : tie.Need-cast-t94
+unfolding lengths
+cast-t94 c =
+    let j = told c in
+    omega (arith, rooms (Given (start j)) (Lent (start j)) (accepts j) .0)
+
+cast-t96 : tie.Need-cast-t96
+unfolding lengths
+cast-t96 c =
+    let j = told c in
+    omega (arith, rooms (Given (start j)) (Lent (start j)) (accepts j) .1)
+
 all-kept-requires : tie.Need-all-kept-requires
 all-kept-requires c κs = search needs
-
-cast-t107 : tie.Need-cast-t107
-unfolding lengths
-cast-t107 c =
-    let m = c .before .before .before .before .before .before .before .before .before .before .before .before .before .before .before .before .before .before .before .before .before .before .before .before .before .before .before .before .before .before .before .before .before .before .before .before .before .before .before .before in
-    let d = start m in
-    omega (arith, rooms (Given d) (Lent d) (accepts m) .0)
-
-cast-t109 : tie.Need-cast-t109
-unfolding lengths
-cast-t109 c =
-    let m = c .before .before .before .before .before .before .before .before .before .before .before .before .before .before .before .before .before .before .before .before .before .before .before .before .before .before .before .before .before .before .before .before .before .before .before .before .before .before .before .before in
-    let d = start m in
-    omega (arith, rooms (Given d) (Lent d) (accepts m) .1)
 
 same-length-14 : tie.Need-same-length-14
 same-length-14 c = search needs
@@ -199,9 +193,14 @@ same-length-26 c = search needs
 returns-2 : tie.Need-returns-2
 unfolding lengths
 returns-2 c =
-    let m = c .before .before .before .before .before .before .before .before .before .before .before .before .before .before .before .before .before .before .before .before .before .before .before .before .before .before .before .before .before .before .before .before .before .before .before .before .before .before .before .before in
-    let d = start m in
-    whole-closes (Given d) (Lent d) _ (accepts m) _ (c .before .before .before .before .before .before .before .before .before .before .before .before .before .before .before .before .before .before .before .before .before .before .before .before .before .before .before .before .mark .ensures) _ _ (sizes m) (c .before .before .before .before .before .before .before .before .before .before .before .before .before .before .before .before .before .before .before .before .before .before .before .before .before .before .before .before .before .before .before .before .before .before .before .before .before .before .before .of2 .ensures) (c .before .before .before .before .before .before .before .before .before .before .before .before .before .before .before .before .before .before .before .before .before .before .before .before .from-set .ensures) (c .before .before .before .before .before .before .before .before .before .before .before .before .before .before .before .before .before .before .before .from-set2 .ensures) (c .before .before .before .before .before .before .before .before .before .before .before .before .before .before .from-set3 .ensures) (c .before .before .before .before .before .before .before .before .before .from-set4 .ensures) (c .before .before .before .before .from-set5 .ensures) (c .before .all-kept .ensures) (c .if1 .taken) (c .before .before .before .before .before .before .before .before .before .before .before .before .before .before .before .before .before .before .before .before .before .before .before .before .before .before .before .before .before .before .before .before .before .before .before .before .before .keeps .ensures)
+    let n = c .before .before in
+    let j = told n in
+    let d = start j in
+    let m = marked n in
+    whole-closes (Given d) (Lent d) _ (accepts j) _ (m .mark .ensures .1) _ _ (m .mark .ensures .0) (n .before .before .before .before .before .before .before .before .before .before .before .before .before .before .before .before .before .before .before .before .before .before .before .before .before .of .ensures)
+    (n .before .before .before .before .before .before .before .before .before .before .before .before .before .before .before .before .before .before .before .before .before .before .from-set .ensures) (n .before .before .before .before .before .before .before .before .before .before .before .before .before .before .before .before .before .from-set2 .ensures) (n .before .before .before .before .before .before .before .before .before .before .before .before .from-set3 .ensures)
+    (n .before .before .before .before .before .before .before .from-set4 .ensures) (n .before .before .from-set5 .ensures)
+    (c .before .all-kept .ensures) (c .if1 .taken) (n .before .before .before .before .before .before .before .before .before .before .before .before .before .before .before .before .before .before .before .before .before .before .before .before .before .before .before .before .before .before .before .before .before .before .before .before .keeps .ensures)
 
 adjust-pool-requires : tie.Need-adjust-pool-requires
 adjust-pool-requires c κs = search needs
@@ -227,19 +226,35 @@ adjust-arena-requires-5 c κs = search needs
 adjust-mentions-requires : tie.Need-adjust-mentions-requires
 adjust-mentions-requires c κs = search needs
 
-cast-t195 : tie.Need-cast-t195
+cast-t94-2 : tie.Need-cast-t94-2
 unfolding lengths
-cast-t195 c =
-    let m = c .before .before .before .before .before .before .before .before .before .before .before .before .before .before .before .before .before .before .before .before .before .before .before .before .before .before .before .before .before .before .before .before .before .before .before .before .before .before .before .before .before .before .before .before .before .before .before .before .before .before .before .before .before .before .before .before .before .before .before .before .before .before .before .before .before .before .before .before .before .before .before .before .before .before .before .before .before .before .before .before .before .before .before .before .before .before .before .before .before .before .before .before .before .before .before .before .before .before .before .before .before .before .before .before .before .before in
-    let d = start m in
-    omega (arith, members-few (Given d) (Lent d) _ (accepts m) _ (c .before .before .before .before .before .before .before .before .before .before .before .before .before .before .before .before .before .before .before .before .before .before .before .before .before .before .before .before .before .before .before .before .before .before .before .before .before .before .before .before .before .before .before .before .before .before .before .before .before .before .before .before .before .before .before .before .before .before .before .before .before .before .before .before .before .before .before .before .before .before .before .before .before .before .before .before .before .before .before .before .before .before .before .before .before .before .before .before .before .before .before .before .before .before .mark .ensures) _ _ (sizes m) (c .before .before .before .before .before .before .before .before .before .before .before .before .before .before .before .before .before .before .before .before .before .before .before .before .before .before .before .before .before .before .before .before .before .before .before .before .before .before .before .before .before .before .before .before .before .before .before .before .before .before .before .before .before .before .before .before .before .before .before .before .before .before .before .before .before .before .before .before .before .before .before .before .before .before .before .before .before .before .before .before .before .before .before .before .before .before .before .before .before .before .before .before .before .before .before .before .before .before .before .before .before .before .before .before .before .of2 .ensures) (c .before .before .before .before .before .before .before .before .before .before .before .before .before .before .before .before .before .before .before .before .before .before .before .before .before .before .before .before .before .before .before .before .before .before .before .before .before .before .before .before .before .before .before .before .before .before .before .before .before .before .before .before .before .before .before .before .before .before .before .before .before .before .before .before .before .before .before .before .before .before .before .before .before .before .before .before .before .before .before .before .before .before .before .before .before .before .before .before .before .before .from-set .ensures) (c .before .before .before .before .before .before .before .before .before .before .before .before .before .before .before .before .before .before .before .before .before .before .before .before .before .before .before .before .before .before .before .before .before .before .before .before .before .before .before .before .before .before .before .before .before .before .before .before .before .before .before .before .before .before .before .before .before .before .before .before .before .before .before .before .before .before .before .before .before .before .before .before .before .before .before .before .before .before .before .before .before .before .before .before .before .from-set2 .ensures) (c .before .before .before .before .before .before .before .before .before .before .before .before .before .before .before .before .before .before .before .before .before .before .before .before .before .before .before .before .before .before .before .before .before .before .before .before .before .before .before .before .before .before .before .before .before .before .before .before .before .before .before .before .before .before .before .before .before .before .before .before .before .before .before .before .before .before .before .before .before .before .before .before .before .before .before .before .before .before .before .before .from-set3 .ensures) (c .before .before .before .before .before .before .before .before .before .before .before .before .before .before .before .before .before .before .before .before .before .before .before .before .before .before .before .before .before .before .before .before .before .before .before .before .before .before .before .before .before .before .before .before .before .before .before .before .before .before .before .before .before .before .before .before .before .before .before .before .before .before .before .before .before .before .before .before .before .before .before .before .before .before .before .from-set4 .ensures) (c .before .before .before .before .before .before .before .before .before .before .before .before .before .before .before .before .before .before .before .before .before .before .before .before .before .before .before .before .before .before .before .before .before .before .before .before .before .before .before .before .before .before .before .before .before .before .before .before .before .before .before .before .before .before .before .before .before .before .before .before .before .before .before .before .before .before .before .before .before .before .from-set5 .ensures) (c .before .before .before .before .before .before .before .before .before .before .before .before .before .before .before .before .before .before .before .before .before .before .before .before .before .before .before .before .before .before .before .before .before .before .before .before .before .before .before .before .before .before .before .before .before .before .before .before .before .before .before .before .before .before .before .before .before .before .before .before .before .before .adjust-pool .ensures))
+cast-t94-2 c =
+    let n = c .before .before .before .before .before .before .before .before .before .before .before .before .before .before .before .before .before .before .before .before .before .before .before .before .before .before .before .before .before .before .before .before .before .before .before .before .before .before .before .before .before .before .before .before .before .before .before .before .before .before .before .before .before .before .before .before .before .before .before .before .before .before .before .before .before .before .before .before in
+    let j = told n in
+    let d = start j in
+    let m = marked n in
+    omega (
+      arith,
+      members-few (Given d) (Lent d) _ (accepts j) _ (m .mark .ensures .1) _ _ (m .mark .ensures .0) (n .before .before .before .before .before .before .before .before .before .before .before .before .before .before .before .before .before .before .before .before .before .before .before .before .before .of .ensures)
+          (n .before .before .before .before .before .before .before .before .before .before .before .before .before .before .before .before .before .before .before .before .before .before .from-set .ensures) (n .before .before .before .before .before .before .before .before .before .before .before .before .before .before .before .before .before .from-set2 .ensures) (n .before .before .before .before .before .before .before .before .before .before .before .before .from-set3 .ensures)
+          (n .before .before .before .before .before .before .before .from-set4 .ensures) (n .before .before .from-set5 .ensures)
+          (c .before .before .before .before .before .before .before .before .before .before .before .before .before .before .before .before .before .before .before .before .before .before .before .before .before .before .before .before .before .before .before .before .before .before .before .before .before .before .before .before .before .before .before .before .before .before .before .before .before .before .before .before .before .before .before .before .before .before .before .before .before .before .adjust-pool .ensures),
+    )
 
-cast-t196 : tie.Need-cast-t196
+cast-t96-2 : tie.Need-cast-t96-2
 unfolding lengths
-cast-t196 c =
-    let m = c .before .before .before .before .before .before .before .before .before .before .before .before .before .before .before .before .before .before .before .before .before .before .before .before .before .before .before .before .before .before .before .before .before .before .before .before .before .before .before .before .before .before .before .before .before .before .before .before .before .before .before .before .before .before .before .before .before .before .before .before .before .before .before .before .before .before .before .before .before .before .before .before .before .before .before .before .before .before .before .before .before .before .before .before .before .before .before .before .before .before .before .before .before .before .before .before .before .before .before .before .before .before .before .before .before .before in
-    let d = start m in
-    omega (arith, components-few (Given d) (Lent d) _ (accepts m) _ (c .before .before .before .before .before .before .before .before .before .before .before .before .before .before .before .before .before .before .before .before .before .before .before .before .before .before .before .before .before .before .before .before .before .before .before .before .before .before .before .before .before .before .before .before .before .before .before .before .before .before .before .before .before .before .before .before .before .before .before .before .before .before .before .before .before .before .before .before .before .before .before .before .before .before .before .before .before .before .before .before .before .before .before .before .before .before .before .before .before .before .before .before .before .before .mark .ensures) _ _ (sizes m) (c .before .before .before .before .before .before .before .before .before .before .before .before .before .before .before .before .before .before .before .before .before .before .before .before .before .before .before .before .before .before .before .before .before .before .before .before .before .before .before .before .before .before .before .before .before .before .before .before .before .before .before .before .before .before .before .before .before .before .before .before .before .before .before .before .before .before .before .before .before .before .before .before .before .before .before .before .before .before .before .before .before .before .before .before .before .before .before .before .before .before .before .before .before .before .before .before .before .before .before .before .before .before .before .before .before .of2 .ensures) (c .before .before .before .before .before .before .before .before .before .before .before .before .before .before .before .before .before .before .before .before .before .before .before .before .before .before .before .before .before .before .before .before .before .before .before .before .before .before .before .before .before .before .before .before .before .before .before .before .before .before .before .before .before .before .before .before .before .before .before .before .before .before .before .before .before .before .before .before .before .before .before .before .before .before .before .before .before .before .before .before .before .before .before .before .before .before .before .before .before .before .from-set .ensures) (c .before .before .before .before .before .before .before .before .before .before .before .before .before .before .before .before .before .before .before .before .before .before .before .before .before .before .before .before .before .before .before .before .before .before .before .before .before .before .before .before .before .before .before .before .before .before .before .before .before .before .before .before .before .before .before .before .before .before .before .before .before .before .before .before .before .before .before .before .before .before .before .before .before .before .before .before .before .before .before .before .before .before .before .before .before .from-set2 .ensures) (c .before .before .before .before .before .before .before .before .before .before .before .before .before .before .before .before .before .before .before .before .before .before .before .before .before .before .before .before .before .before .before .before .before .before .before .before .before .before .before .before .before .before .before .before .before .before .before .before .before .before .before .before .before .before .before .before .before .before .before .before .before .before .before .before .before .before .before .before .before .before .before .before .before .before .before .before .before .before .before .before .from-set3 .ensures) (c .before .before .before .before .before .before .before .before .before .before .before .before .before .before .before .before .before .before .before .before .before .before .before .before .before .before .before .before .before .before .before .before .before .before .before .before .before .before .before .before .before .before .before .before .before .before .before .before .before .before .before .before .before .before .before .before .before .before .before .before .before .before .before .before .before .before .before .before .before .before .before .before .before .before .before .from-set4 .ensures) (c .before .before .before .before .before .before .before .before .before .before .before .before .before .before .before .before .before .before .before .before .before .before .before .before .before .before .before .before .before .before .before .before .before .before .before .before .before .before .before .before .before .before .before .before .before .before .before .before .before .before .before .before .before .before .before .before .before .before .before .before .before .before .before .before .before .before .before .before .before .before .from-set5 .ensures) (c .before .before .before .before .before .before .before .before .before .before .before .before .before .before .before .before .before .before .before .before .before .before .before .before .before .before .before .before .before .before .before .before .before .before .before .before .before .before .before .before .before .before .before .before .before .before .before .before .before .before .before .before .before .before .before .before .adjust-pool2 .ensures))
+cast-t96-2 c =
+    let n = c .before .before .before .before .before .before .before .before .before .before .before .before .before .before .before .before .before .before .before .before .before .before .before .before .before .before .before .before .before .before .before .before .before .before .before .before .before .before .before .before .before .before .before .before .before .before .before .before .before .before .before .before .before .before .before .before .before .before .before .before .before .before .before .before .before .before .before .before in
+    let j = told n in
+    let d = start j in
+    let m = marked n in
+    omega (
+      arith,
+      components-few (Given d) (Lent d) _ (accepts j) _ (m .mark .ensures .1) _ _ (m .mark .ensures .0) (n .before .before .before .before .before .before .before .before .before .before .before .before .before .before .before .before .before .before .before .before .before .before .before .before .before .of .ensures)
+          (n .before .before .before .before .before .before .before .before .before .before .before .before .before .before .before .before .before .before .before .before .before .before .from-set .ensures) (n .before .before .before .before .before .before .before .before .before .before .before .before .before .before .before .before .before .from-set2 .ensures) (n .before .before .before .before .before .before .before .before .before .before .before .before .from-set3 .ensures)
+          (n .before .before .before .before .before .before .before .from-set4 .ensures) (n .before .before .from-set5 .ensures)
+          (c .before .before .before .before .before .before .before .before .before .before .before .before .before .before .before .before .before .before .before .before .before .before .before .before .before .before .before .before .before .before .before .before .before .before .before .before .before .before .before .before .before .before .before .before .before .before .before .before .before .before .before .before .before .before .before .before .adjust-pool2 .ensures),
+    )
 
 same-length-27 : tie.Need-same-length-27
 same-length-27 c = c .before .before .before .before .before .before .before .before .before .before .before .before .before .before .before .before .before .before .before .before .before .before .before .before .before .before .before .before .before .before .before .before .before .before .before .before .before .before .before .before .before .before .before .before .before .before .before .adjust-arena .kept .1 .0
@@ -283,9 +298,20 @@ same-length-39 c = c .before .before .before .before .before .before .before .be
 returns-3 : tie.Need-returns-3
 unfolding lengths
 returns-3 c =
-    let m = c .before .before .before .before .before .before .before .before .before .before .before .before .before .before .before .before .before .before .before .before .before .before .before .before .before .before .before .before .before .before .before .before .before .before .before .before .before .before .before .before .before .before .before .before .before .before .before .before .before .before .before .before .before .before .before .before .before .before .before .before .before .before .before .before .before .before .before .before .before .before .before .before .before .before .before .before .before .before .before .before .before .before .before .before .before .before .before .before .before .before .before .before .before .before .before .before .before .before .before .before .before .before .before .before .before .before in
-    let d = start m in
-    accepted-closes (Given d) (Lent d) _ (accepts m) _ (c .before .before .before .before .before .before .before .before .before .before .before .before .before .before .before .before .before .before .before .before .before .before .before .before .before .before .before .before .before .before .before .before .before .before .before .before .before .before .before .before .before .before .before .before .before .before .before .before .before .before .before .before .before .before .before .before .before .before .before .before .before .before .before .before .before .before .before .before .before .before .before .before .before .before .before .before .before .before .before .before .before .before .before .before .before .before .before .before .before .before .before .before .before .before .mark .ensures) _ _ (sizes m) (c .before .before .before .before .before .before .before .before .before .before .before .before .before .before .before .before .before .before .before .before .before .before .before .before .before .before .before .before .before .before .before .before .before .before .before .before .before .before .before .before .before .before .before .before .before .before .before .before .before .before .before .before .before .before .before .before .before .before .before .before .before .before .before .before .before .before .before .before .before .before .before .before .before .before .before .before .before .before .before .before .before .before .before .before .before .before .before .before .before .before .before .before .before .before .before .before .before .before .before .before .before .before .before .before .before .of2 .ensures) (c .before .before .before .before .before .before .before .before .before .before .before .before .before .before .before .before .before .before .before .before .before .before .before .before .before .before .before .before .before .before .before .before .before .before .before .before .before .before .before .before .before .before .before .before .before .before .before .before .before .before .before .before .before .before .before .before .before .before .before .before .before .before .before .before .before .before .before .before .before .before .before .before .before .before .before .before .before .before .before .before .before .before .before .before .before .before .before .before .before .before .from-set .ensures) (c .before .before .before .before .before .before .before .before .before .before .before .before .before .before .before .before .before .before .before .before .before .before .before .before .before .before .before .before .before .before .before .before .before .before .before .before .before .before .before .before .before .before .before .before .before .before .before .before .before .before .before .before .before .before .before .before .before .before .before .before .before .before .before .before .before .before .before .before .before .before .before .before .before .before .before .before .before .before .before .before .before .before .before .before .before .from-set2 .ensures) (c .before .before .before .before .before .before .before .before .before .before .before .before .before .before .before .before .before .before .before .before .before .before .before .before .before .before .before .before .before .before .before .before .before .before .before .before .before .before .before .before .before .before .before .before .before .before .before .before .before .before .before .before .before .before .before .before .before .before .before .before .before .before .before .before .before .before .before .before .before .before .before .before .before .before .before .before .before .before .before .before .from-set3 .ensures) (c .before .before .before .before .before .before .before .before .before .before .before .before .before .before .before .before .before .before .before .before .before .before .before .before .before .before .before .before .before .before .before .before .before .before .before .before .before .before .before .before .before .before .before .before .before .before .before .before .before .before .before .before .before .before .before .before .before .before .before .before .before .before .before .before .before .before .before .before .before .before .before .before .before .before .before .from-set4 .ensures) (c .before .before .before .before .before .before .before .before .before .before .before .before .before .before .before .before .before .before .before .before .before .before .before .before .before .before .before .before .before .before .before .before .before .before .before .before .before .before .before .before .before .before .before .before .before .before .before .before .before .before .before .before .before .before .before .before .before .before .before .before .before .before .before .before .before .before .before .before .before .before .from-set5 .ensures) (c .before .before .before .before .before .before .before .before .before .before .before .before .before .before .before .before .before .before .before .before .before .before .before .before .before .before .before .before .before .before .before .before .before .before .before .before .before .before .before .before .before .before .before .before .before .before .before .before .before .before .before .before .before .before .before .before .before .before .before .before .before .before .adjust-pool .ensures) (c .before .before .before .before .before .before .before .before .before .before .before .before .before .before .before .before .before .before .before .before .before .before .before .before .before .before .before .before .before .before .before .before .before .before .before .before .before .before .before .before .before .before .before .before .before .before .before .before .before .before .before .before .before .before .before .before .adjust-pool2 .ensures) (c .before .before .before .before .before .before .before .before .before .before .before .before .before .before .before .before .before .before .before .before .before .before .before .before .before .before .before .before .before .before .before .before .before .before .before .before .before .before .before .before .before .before .before .before .before .before .before .adjust-arena .ensures) (c .before .before .before .before .before .before .before .before .before .before .before .before .before .before .before .before .before .before .before .before .before .before .before .before .before .before .before .before .before .before .before .before .before .before .before .before .before .before .adjust-arena2 .ensures) (c .before .before .before .before .before .before .before .before .before .before .before .before .before .before .before .before .before .before .before .before .before .before .before .before .before .before .before .before .before .adjust-arena3 .ensures) (c .before .before .before .before .before .before .before .before .before .before .before .before .before .before .before .before .before .before .before .before .adjust-arena4 .ensures) (c .before .before .before .before .before .before .before .before .before .before .before .adjust-arena5 .ensures) (c .before .before .adjust-mentions .ensures) (c .before .before .before .before .before .before .before .before .before .before .before .before .before .before .before .before .before .before .before .before .before .before .before .before .before .before .before .before .before .before .before .before .before .before .before .before .before .before .before .before .before .before .before .before .before .before .before .before .before .before .before .before .before .before .before .before .before .before .before .before .before .before .before .before .before .before .before .before .before .before .before .before .before .before .before .before .before .before .before .before .before .before .before .before .before .before .before .before .before .before .before .before .before .before .before .before .before .before .before .before .before .before .before .keeps .ensures)
+    let n = c .before .before .before .before .before .before .before .before .before .before .before .before .before .before .before .before .before .before .before .before .before .before .before .before .before .before .before .before .before .before .before .before .before .before .before .before .before .before .before .before .before .before .before .before .before .before .before .before .before .before .before .before .before .before .before .before .before .before .before .before .before .before .before .before .before .before .before .before in
+    let j = told n in
+    let d = start j in
+    let m = marked n in
+    accepted-closes (Given d) (Lent d) _ (accepts j) _ (m .mark .ensures .1) _ _ (m .mark .ensures .0) (n .before .before .before .before .before .before .before .before .before .before .before .before .before .before .before .before .before .before .before .before .before .before .before .before .before .of .ensures)
+    (n .before .before .before .before .before .before .before .before .before .before .before .before .before .before .before .before .before .before .before .before .before .before .from-set .ensures) (n .before .before .before .before .before .before .before .before .before .before .before .before .before .before .before .before .before .from-set2 .ensures) (n .before .before .before .before .before .before .before .before .before .before .before .before .from-set3 .ensures)
+    (n .before .before .before .before .before .before .before .from-set4 .ensures) (n .before .before .from-set5 .ensures)
+    (c .before .before .before .before .before .before .before .before .before .before .before .before .before .before .before .before .before .before .before .before .before .before .before .before .before .before .before .before .before .before .before .before .before .before .before .before .before .before .before .before .before .before .before .before .before .before .before .before .before .before .before .before .before .before .before .before .before .before .before .before .before .before .adjust-pool .ensures) (c .before .before .before .before .before .before .before .before .before .before .before .before .before .before .before .before .before .before .before .before .before .before .before .before .before .before .before .before .before .before .before .before .before .before .before .before .before .before .before .before .before .before .before .before .before .before .before .before .before .before .before .before .before .before .before .before .adjust-pool2 .ensures)
+    (c .before .before .before .before .before .before .before .before .before .before .before .before .before .before .before .before .before .before .before .before .before .before .before .before .before .before .before .before .before .before .before .before .before .before .before .before .before .before .before .before .before .before .before .before .before .before .before .adjust-arena .ensures)
+    (c .before .before .before .before .before .before .before .before .before .before .before .before .before .before .before .before .before .before .before .before .before .before .before .before .before .before .before .before .before .before .before .before .before .before .before .before .before .before .adjust-arena2 .ensures)
+    (c .before .before .before .before .before .before .before .before .before .before .before .before .before .before .before .before .before .before .before .before .before .before .before .before .before .before .before .before .before .adjust-arena3 .ensures)
+    (c .before .before .before .before .before .before .before .before .before .before .before .before .before .before .before .before .before .before .before .before .adjust-arena4 .ensures)
+    (c .before .before .before .before .before .before .before .before .before .before .before .adjust-arena5 .ensures)
+    (c .before .before .adjust-mentions .ensures) (n .before .before .before .before .before .before .before .before .before .before .before .before .before .before .before .before .before .before .before .before .before .before .before .before .before .before .before .before .before .before .before .before .before .before .before .before .keeps .ensures)
 
 pub compact-spec : {M : Type 1} → statement M
 compact-spec =
@@ -308,11 +334,10 @@ compact-spec =
     same-length-13
     returns
     enum-told
-    of-requires
-    of-requires-2
     slice-aggregate-mark
     keeps-requires
     mark-requires
+    of-requires
     slice-aggregate-from-set
     from-set-requires
     slice-aggregate-from-set-2
@@ -323,9 +348,9 @@ compact-spec =
     from-set-requires-4
     slice-aggregate-from-set-5
     from-set-requires-5
+    cast-t94
+    cast-t96
     all-kept-requires
-    cast-t107
-    cast-t109
     same-length-14
     same-length-15
     same-length-16
@@ -348,8 +373,8 @@ compact-spec =
     adjust-arena-requires-4
     adjust-arena-requires-5
     adjust-mentions-requires
-    cast-t195
-    cast-t196
+    cast-t94-2
+    cast-t96-2
     same-length-27
     same-length-28
     same-length-29

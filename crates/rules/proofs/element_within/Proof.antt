@@ -3,8 +3,8 @@
 use mathlib.Core.Path.{_∙_}
 use mathlib.Core.List.{[], _∷_}
 use borrow.Author.Needs.{needs}
+use Rattle.arena.specs.Lent.{areasIn}
 use Rattle.arena.specs.Elements.{elementOf}
-use Rattle.slots.specs.Part.{part}
 use Rattle.rules.proofs.Arms.{told, fits}
 use Rattle.rules.proofs.Behind.{first, second, of-type, of-expression, of-constant, of-override, of-global}
 use Rattle.rules.proofs.element_within.Statement.{statement}
@@ -69,59 +69,59 @@ expression-within-requires-2 c κs = search needs
 
 returns : tie.Need-returns
 returns c =
-    let a = c .before .before .before .before .before .before .before .args in
-    let s = part (a .constants .now) (a .overrides .now) (a .globals .now) in
+    let a = c .before .before .before .before .args in
+    let s = areasIn (a .m .now) in
     told (λ x. fits (a .b) s (elementOf x ∷ [])) (c .before .before .x .given .1) (c .type-within .ensures ∙ of-type (a .b) s _)
 
 returns-2 : tie.Need-returns-2
 returns-2 c =
-    let a = c .before .before .before .before .before .before .before .before .before .before .before .args in
-    let s = part (a .constants .now) (a .overrides .now) (a .globals .now) in
+    let a = c .before .before .before .before .before .before .before .before .args in
+    let s = areasIn (a .m .now) in
     told (λ x. fits (a .b) s (elementOf x ∷ [])) (c .before .before .before .before .before .before .x2 .given .1)
     (second (of-constant (a .b) s _) (c .before .before .before .type-within2 .ensures) (c .before .before .before .before .ty .ensures) (c .before .before .if1 .taken)
     (c .expression-within .ensures) (c .before .init .ensures))
 
 returns-3 : tie.Need-returns-3
 returns-3 c =
-    let a = c .before .before .before .before .before .before .before .before .before .args in
-    let s = part (a .constants .now) (a .overrides .now) (a .globals .now) in
+    let a = c .before .before .before .before .before .before .args in
+    let s = areasIn (a .m .now) in
     told (λ x. fits (a .b) s (elementOf x ∷ [])) (c .before .before .before .before .x2 .given .1)
     (first (of-constant (a .b) s _) (c .before .type-within2 .ensures) (c .before .before .ty .ensures) (c .if1 .left))
 
 returns-4 : tie.Need-returns-4
 returns-4 c =
-    let a = c .before .before .before .before .before .before .before .before .before .before .before .args in
-    let s = part (a .constants .now) (a .overrides .now) (a .globals .now) in
+    let a = c .before .before .before .before .before .before .before .before .args in
+    let s = areasIn (a .m .now) in
     told (λ x. fits (a .b) s (elementOf x ∷ [])) (c .before .before .before .before .before .before .x3 .given .1)
     (second (of-override (a .b) s _) (c .before .before .before .type-within3 .ensures) (c .before .before .before .before .ty2 .ensures) (c .before .before .if2 .taken)
     (c .init-within .ensures) (c .before .init2 .ensures))
 
 returns-5 : tie.Need-returns-5
 returns-5 c =
-    let a = c .before .before .before .before .before .before .before .before .before .args in
-    let s = part (a .constants .now) (a .overrides .now) (a .globals .now) in
+    let a = c .before .before .before .before .before .before .args in
+    let s = areasIn (a .m .now) in
     told (λ x. fits (a .b) s (elementOf x ∷ [])) (c .before .before .before .before .x3 .given .1)
     (first (of-override (a .b) s _) (c .before .type-within3 .ensures) (c .before .before .ty2 .ensures) (c .if2 .left))
 
 returns-6 : tie.Need-returns-6
 returns-6 c =
-    let a = c .before .before .before .before .before .before .before .before .before .before .before .args in
-    let s = part (a .constants .now) (a .overrides .now) (a .globals .now) in
+    let a = c .before .before .before .before .before .before .before .before .args in
+    let s = areasIn (a .m .now) in
     told (λ x. fits (a .b) s (elementOf x ∷ [])) (c .before .before .before .before .before .before .x4 .given .1)
     (second (of-global (a .b) s _) (c .before .before .before .type-within4 .ensures) (c .before .before .before .before .ty3 .ensures) (c .before .before .if3 .taken)
     (c .init-within2 .ensures) (c .before .init3 .ensures))
 
 returns-7 : tie.Need-returns-7
 returns-7 c =
-    let a = c .before .before .before .before .before .before .before .before .before .args in
-    let s = part (a .constants .now) (a .overrides .now) (a .globals .now) in
+    let a = c .before .before .before .before .before .before .args in
+    let s = areasIn (a .m .now) in
     told (λ x. fits (a .b) s (elementOf x ∷ [])) (c .before .before .before .before .x4 .given .1)
     (first (of-global (a .b) s _) (c .before .type-within4 .ensures) (c .before .before .ty3 .ensures) (c .if3 .left))
 
 returns-8 : tie.Need-returns-8
 returns-8 c =
-    let a = c .before .before .before .before .before .before .before .args in
-    let s = part (a .constants .now) (a .overrides .now) (a .globals .now) in
+    let a = c .before .before .before .before .args in
+    let s = areasIn (a .m .now) in
     told (λ x. fits (a .b) s (elementOf x ∷ [])) (c .before .before .x5 .given .1) (c .expression-within2 .ensures ∙ of-expression (a .b) s _)
 
 pub element-within-spec : {M : Type 1} → statement M

@@ -5,8 +5,9 @@ use lib.Dec.{ltb}
 use borrow.Author.Needs.{needs}
 use borrow.Author.Tests.{eq-eqb, ne-eqb}
 use Rattle.definitions.specs.Areas.{N}
+use Rattle.arena.specs.Sizes.{sizeIn}
 use Rattle.slots.specs.Codes.{slotOf}
-use Rattle.rules.specs.Rules.{sizeIn, heldBy}
+use Rattle.rules.specs.Rules.{heldBy}
 use Rattle.rules.proofs.Arms.{told, no-handle}
 use Rattle.rules.proofs.held.Statement.{statement}
 use Rattle.rules.proofs.held.Tie as tie

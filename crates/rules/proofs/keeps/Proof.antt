@@ -1,6 +1,7 @@
 -- `rules::keeps` meets its contract: each arm is given which rule it is.
 -- Assumes nothing.
 use borrow.Author.Needs.{needs}
+use Rattle.arena.specs.Lent.{areasIn}
 use Rattle.slots.specs.Codes.{slotOf}
 use Rattle.rules.specs.Rules.{asked}
 use Rattle.rules.proofs.Arms.{told}
@@ -28,22 +29,22 @@ ordered-requires c κs = search needs
 returns : tie.Need-returns
 unfolding asked
 returns c =
-    let a = c .before .before .before .before .before .before .before .args in
-    told (λ x. asked (a .constants .now) (a .overrides .now) (a .globals .now) x (slotOf (a .slot)) (a .w)) (c .before .before .rule .given .1)
+    let a = c .before .before .before .before .args in
+    told (λ x. asked (areasIn (a .m .now)) x (slotOf (a .slot)) (a .w)) (c .before .before .rule .given .1)
     (c .shaped .ensures)
 
 returns-2 : tie.Need-returns-2
 unfolding asked
 returns-2 c =
-    let a = c .before .before .before .before .before .before .before .args in
-    told (λ x. asked (a .constants .now) (a .overrides .now) (a .globals .now) x (slotOf (a .slot)) (a .w)) (c .before .before .rule2 .given .1)
+    let a = c .before .before .before .before .args in
+    told (λ x. asked (areasIn (a .m .now)) x (slotOf (a .slot)) (a .w)) (c .before .before .rule2 .given .1)
     (c .held .ensures)
 
 returns-3 : tie.Need-returns-3
 unfolding asked
 returns-3 c =
-    let a = c .before .before .before .before .before .before .before .args in
-    told (λ x. asked (a .constants .now) (a .overrides .now) (a .globals .now) x (slotOf (a .slot)) (a .w)) (c .before .before .rule3 .given .1)
+    let a = c .before .before .before .before .args in
+    told (λ x. asked (areasIn (a .m .now)) x (slotOf (a .slot)) (a .w)) (c .before .before .rule3 .given .1)
     (c .ordered .ensures)
 
 pub keeps-spec : {M : Type 1} → statement M

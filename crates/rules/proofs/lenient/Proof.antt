@@ -8,7 +8,7 @@ use denote.Enum.Declared.{tagOf}
 use types.Run.{OneOf, miss}
 use borrow.Author.Needs.{needs}
 use Rattle.definitions.specs.Lists.{all}
-use Rattle.definitions.specs.Areas.{Words}
+use Rattle.definitions.specs.Areas.{Areas}
 use Rattle.definitions.specs.Slots.{unused}
 use Rattle.definitions.specs.References.{namedBy}
 use Rattle.definitions.specs.Order.{withBehind}
@@ -19,17 +19,17 @@ use Rattle.rules.proofs.Rule.{the-type}
 use Rattle.rules.proofs.lenient.Statement.{statement}
 use Rattle.rules.proofs.lenient.Tie as tie
 
-others : (rule : Rule) → OneOf (1 ∷ 2 ∷ []) (tagOf the-type rule) → (c o g : Words) (w : ℕ) → asked c o g rule unused w ≡ true
+others : (rule : Rule) → OneOf (1 ∷ 2 ∷ []) (tagOf the-type rule) → (s : Areas) (w : ℕ) → asked s rule unused w ≡ true
 unfolding asked heldBy namedBy withBehind all
-others (Shaped r) h c o g w = absurd (miss (1 ∷ 2 ∷ []) 0 tt h)
-others (Held z) h c o g w = refl
-others (Ordered b) h c o g w = refl
+others (Shaped r) h s w = absurd (miss (1 ∷ 2 ∷ []) 0 tt h)
+others (Held z) h s w = refl
+others (Ordered b) h s w = refl
 
 enum-told : tie.Need-enum-told
 enum-told c = search needs
 
 returns : tie.Need-returns
-returns c = λ e k o g w. absurd (false≢true e)
+returns c = λ e s w. absurd (false≢true e)
 
 returns-2 : tie.Need-returns-2
 returns-2 c = λ e. others _ (c .match .keys2)

@@ -2,28 +2,23 @@
 -- Assumes nothing.
 use mathlib.Core.Path.{_≡_, sym, ap, _∙_}
 use mathlib.Core.Bool.{false}
-use Prim.Native.Nat.{ℕ, suc, _+_, _-_, _*_, _≤_, _<_}
+use Prim.Native.Nat.{ℕ, suc, _+_, _-_, _≤_, _<_}
 use native.Mathlib.Decide.{decLe}
 use native.Mathlib.Numerals.{add-one}
 use native.Mathlib.Omega.{arith}
 use lib.Dec.{eqb}
+use lib.ListN.{length}
 use borrow.Author.Needs.{needs}
 use borrow.Author.Tests.{eq-eqb, ne-eqb}
 use Rattle.definitions.specs.Lists.{always, total}
-use Rattle.definitions.specs.Areas.{Words, numbered, width, wordOf}
+use Rattle.definitions.specs.Areas.{numbered, pool}
+use Rattle.definitions.specs.References.{span}
+use Rattle.definitions.specs.Refusals.{runsBefore}
 use Rattle.definitions.proofs.ListLaws.{total-step, total-mono}
-use Rattle.slots.specs.Codes.{wordsFrom, spanIn}
-use Rattle.slots.proofs.Places.{place-fits, place-words}
+use Rattle.arena.specs.Lent.{areasIn}
+use Rattle.slots.proofs.Places.{place-fits, record-span}
 use Rattle.rules.proofs.pool_used.Statement.{statement}
 use Rattle.rules.proofs.pool_used.Tie as tie
-
--- the counts of an arena's records
-abbrev counts : ℕ → Words → ℕ → ℕ
-counts area ws h = spanIn (numbered area) (wordOf ws (numbered area) h)
-
--- the count that the code reads
-counted : (area : ℕ) (ws : Words) (i : ℕ) {w k : ℕ} → w ≡ width (numbered area) → k ≡ spanIn (numbered area) (wordsFrom ws (i * w)) → k ≡ counts area ws i
-counted area ws i e q = q ∙ ap (spanIn (numbered area)) (place-words ws (numbered area) i e)
 
 module _ (g : ℕ → ℕ) (left i n room : ℕ) (whole : left + total always g i ≡ room) where
   -- a count that is more than what is left
@@ -40,23 +35,29 @@ module _ (g : ℕ → ℕ) (left i n room : ℕ) (whole : left + total always g 
   ]
 
 abbrev Inv-loop : tie.InvT-loop
-Inv-loop area ws n room width left₀ i₀ left i = (i ≤ n) × (left + total always (counts area ws) i ≡ room)
+Inv-loop area n m ws width left₀ i₀ left i = (i ≤ n) × (left + total always (span (areasIn m) (numbered area)) i ≡ length (pool (areasIn m) (numbered area)))
 
 abbrev μ-loop : tie.MeasureT-loop
-μ-loop area ws n room width left₀ i₀ left i = n - i
+μ-loop area n m ws width left₀ i₀ left i = n - i
+
+arena-words-requires : tie.Need-arena-words-requires Inv-loop μ-loop
+arena-words-requires c κs = search needs
 
 arena-width-requires : tie.Need-arena-width-requires Inv-loop μ-loop
 arena-width-requires c κs = search needs
 
+arena-pool-requires : tie.Need-arena-pool-requires Inv-loop μ-loop
+arena-pool-requires c κs = search needs
+
 loop-holds : tie.Need-loop-holds Inv-loop μ-loop
 unfolding total
-loop-holds c = (search needs, omega arith)
+loop-holds c = (search needs, omega (arith, ap length (c .arena-pool .ensures)))
 
 cast-span : tie.Need-cast-span Inv-loop μ-loop
 cast-span c = search needs
 
 mul-span : tie.Need-mul-span Inv-loop μ-loop
-mul-span c = place-fits (numbered (c .before .before .before .before .args .area)) (c .before .loop .i) _ (omega arith) (c .before .before .arena-width .ensures)
+mul-span c = place-fits (numbered (c .before .before .before .before .before .args .area)) (c .before .loop .i) _ (omega arith) (c .before .before .before .arena-width .ensures)
 
 span-requires : tie.Need-span-requires Inv-loop μ-loop
 span-requires c κs = search needs
@@ -65,11 +66,13 @@ cast-span-2 : tie.Need-cast-span-2 Inv-loop μ-loop
 cast-span-2 c = search needs
 
 returns : tie.Need-returns Inv-loop μ-loop
+unfolding runsBefore
 returns c =
-    let a = c .before .before .before .before .before .before .args in
+    let a = c .before .before .before .before .before .before .before .args in
+    let s = areasIn (a .m .now) in
     let l = c .before .before .before .loop in
-    too-many (counts (a .area) (a .ws .now)) (l .left) (l .i) (a .n) (a .room) (l .inv .1) (c .before .before .loop-test .taken)
-    (counted (a .area) (a .ws .now) (l .i) (c .before .before .before .before .arena-width .ensures) (c .before .span .ensures)) (c .if1 .taken)
+    too-many (span s (numbered (a .area))) (l .left) (l .i) (a .n) _ (l .inv .1) (c .before .before .loop-test .taken) (record-span s (numbered (a .area)) (l .i) (c .before .before .before .before .before .before .arena-words .ensures)
+    (c .before .before .before .before .before .arena-width .ensures) (c .before .span .ensures)) (c .if1 .taken)
 
 add-i : tie.Need-add-i Inv-loop μ-loop
 add-i c = search needs
@@ -79,16 +82,18 @@ loop-less c = search needs
 
 loop-again : tie.Need-loop-again Inv-loop μ-loop
 loop-again c =
-    let a = c .before .before .before .before .before .before .args in
+    let a = c .before .before .before .before .before .before .before .args in
+    let s = areasIn (a .m .now) in
     let l = c .before .before .before .loop in
-    let e = counted (a .area) (a .ws .now) (l .i) (c .before .before .before .before .arena-width .ensures) (c .before .span .ensures) in
-    (search needs, turn (counts (a .area) (a .ws .now)) (l .left) (l .i) (a .n) (a .room) (l .inv .1) e (c .if1 .left))
+    let e = record-span s (numbered (a .area)) (l .i) (c .before .before .before .before .before .before .arena-words .ensures) (c .before .before .before .before .before .arena-width .ensures) (c .before .span .ensures) in
+    (search needs, turn (span s (numbered (a .area))) (l .left) (l .i) (a .n) _ (l .inv .1) e (c .if1 .left))
 
 returns-2 : tie.Need-returns-2 Inv-loop μ-loop
+unfolding runsBefore
 returns-2 c =
-    let a = c .before .before .before .before .args in
+    let a = c .before .before .before .before .before .args in
     let l = c .before .loop in
-    done (counts (a .area) (a .ws .now)) (l .left) (l .i) (a .n) (a .room) (l .inv .1) (omega arith)
+    done (span (areasIn (a .m .now)) (numbered (a .area))) (l .left) (l .i) (a .n) _ (l .inv .1) (omega arith)
 
 pub pool-used-spec : {M : Type 1} → statement M
 pool-used-spec =
@@ -96,7 +101,9 @@ pool-used-spec =
     (tie.spec
     Inv-loop
     μ-loop
+    arena-words-requires
     arena-width-requires
+    arena-pool-requires
     loop-holds
     cast-span
     mul-span

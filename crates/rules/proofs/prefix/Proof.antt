@@ -2,15 +2,15 @@
 -- Assumes nothing.
 use mathlib.Core.Path.{_≡_, refl, sym, ap, _∙_}
 use mathlib.Core.Bool.{Bool, cond}
-use mathlib.Core.List.{[]}
 use Prim.Native.Nat.{ℕ, suc, _+_, _-_, _≤_, _<_}
 use native.Mathlib.Numerals.{add-one}
 use native.Mathlib.Omega.{arith}
 use lib.Dec.{leb}
 use borrow.Author.Needs.{needs}
 use borrow.Author.Tests.{le-leb, lt-leb}
-use Rattle.definitions.specs.Areas.{Areas, areasOf}
+use Rattle.definitions.specs.Areas.{Areas}
 use Rattle.definitions.specs.Order.{sizedBy}
+use Rattle.arena.specs.Lent.{areasIn}
 use Rattle.rules.specs.Rules.{leading}
 use Rattle.rules.proofs.prefix.Statement.{statement}
 use Rattle.rules.proofs.prefix.Tie as tie
@@ -28,11 +28,11 @@ module _ (s : Areas) (e u n : ℕ) where
   done h = let m : n - u ≡ 0 = omega arith in rw m
 
 abbrev Inv-loop : tie.InvT-loop
-Inv-loop types overrides t n e u₀ u =
-    leading (areasOf types [] overrides [] [] [] [] []) e u (n - u) ≡ leading (areasOf types [] overrides [] [] [] [] []) e t (n - t)
+Inv-loop t n e m u₀ u =
+    leading (areasIn m) e u (n - u) ≡ leading (areasIn m) e t (n - t)
 
 abbrev μ-loop : tie.MeasureT-loop
-μ-loop types overrides t n e u₀ u = n - u
+μ-loop t n e m u₀ u = n - u
 
 loop-holds : tie.Need-loop-holds Inv-loop μ-loop
 loop-holds c = refl
@@ -42,9 +42,9 @@ sized-requires c κs = search needs
 
 returns : tie.Need-returns Inv-loop μ-loop
 returns c =
-    let a = c .before .before .before .before .before .before .args in
+    let a = c .before .before .before .before .args in
     let l = c .before .before .before .loop in
-    let s = areasOf (a .types .now) [] (a .overrides .now) [] [] [] [] [] in
+    let s = areasIn (a .m .now) in
     turn s (a .e) (l .u) (a .n) (c .before .before .loop-test .taken) (c .before .sized .ensures) (lt-leb _ _ (c .if1 .taken)) ∙ l .inv
 
 add-u : tie.Need-add-u Inv-loop μ-loop
@@ -55,28 +55,19 @@ loop-less c = search needs
 
 loop-again : tie.Need-loop-again Inv-loop μ-loop
 loop-again c =
-    let a = c .before .before .before .before .before .before .args in
+    let a = c .before .before .before .before .args in
     let l = c .before .before .before .loop in
-    let s = areasOf (a .types .now) [] (a .overrides .now) [] [] [] [] [] in
+    let s = areasIn (a .m .now) in
     turn s (a .e) (l .u) (a .n) (c .before .before .loop-test .taken) (c .before .sized .ensures) (le-leb _ _ (c .if1 .left)) ∙ l .inv
 
 returns-2 : tie.Need-returns-2 Inv-loop μ-loop
 returns-2 c =
-    let a = c .before .before .before .before .args in
+    let a = c .before .before .args in
     let l = c .before .loop in
-    let s = areasOf (a .types .now) [] (a .overrides .now) [] [] [] [] [] in
+    let s = areasIn (a .m .now) in
     done s (a .e) (l .u) (a .n) (c .loop-test .left) ∙ l .inv
 
 pub prefix-spec : {M : Type 1} → statement M
 prefix-spec =
     tie.close
-    (tie.spec
-    Inv-loop
-    μ-loop
-    loop-holds
-    sized-requires
-    returns
-    add-u
-    loop-less
-    loop-again
-    returns-2)
+    (tie.spec Inv-loop μ-loop loop-holds sized-requires returns add-u loop-less loop-again returns-2)

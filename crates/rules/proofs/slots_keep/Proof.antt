@@ -6,6 +6,7 @@ use native.Mathlib.Nat.{sub-zero}
 use borrow.Author.Needs.{needs}
 use borrow.Author.Tests.{not-true, not-false}
 use Rattle.definitions.specs.Refusals.{every}
+use Rattle.arena.specs.Lent.{areasIn}
 use Rattle.slots.specs.Codes.{unpacked, wordsFrom}
 use Rattle.rules.specs.Rules.{asked}
 use Rattle.rules.proofs.Every.{turn, none-left, done}
@@ -13,18 +14,18 @@ use Rattle.rules.proofs.slots_keep.Statement.{statement}
 use Rattle.rules.proofs.slots_keep.Tie as tie
 
 abbrev Inv-loop : tie.InvT-loop
-Inv-loop rule ws at shape n constants overrides globals rest₀ k₀ rest k =
+Inv-loop rule ws at shape n m rest₀ k₀ rest k =
     (k ≤ n)
-    × (every (asked constants overrides globals rule) (wordsFrom ws at) k (unpacked rest (n - k))
-    ≡ every (asked constants overrides globals rule) (wordsFrom ws at) 0 (unpacked shape n))
+    × (every (asked (areasIn m) rule) (wordsFrom ws at) k (unpacked rest (n - k))
+    ≡ every (asked (areasIn m) rule) (wordsFrom ws at) 0 (unpacked shape n))
 
 abbrev μ-loop : tie.MeasureT-loop
-μ-loop rule ws at shape n constants overrides globals rest₀ k₀ rest k = n - k
+μ-loop rule ws at shape n m rest₀ k₀ rest k = n - k
 
 loop-holds : tie.Need-loop-holds Inv-loop μ-loop
 loop-holds c =
-    let a = c .before .before .before .before .args in
-    let p = asked (a .constants .now) (a .overrides .now) (a .globals .now) (a .rule) in
+    let a = c .before .args in
+    let p = asked (areasIn (a .m .now)) (a .rule) in
     (search needs, ap (λ m. every p (wordsFrom (a .ws .now) (a .at)) 0 (unpacked (a .shape) m)) (sub-zero (a .n)))
 
 lenient-requires : tie.Need-lenient-requires Inv-loop μ-loop
@@ -32,10 +33,10 @@ lenient-requires c κs = search needs
 
 returns : tie.Need-returns Inv-loop μ-loop
 returns c =
-    let a = c .before .before .before .before .before .before .before .before .before .args in
+    let a = c .before .before .before .before .before .before .args in
     let l = c .before .before .before .before .loop in
-    let p = asked (a .constants .now) (a .overrides .now) (a .globals .now) (a .rule) in
-    none-left p (wordsFrom (a .ws .now) (a .at)) (l .rest) (l .k) (a .n) (c .before .lenient .ensures (c .if2 .taken) _ _ _) (c .before .before .if1 .taken)
+    let p = asked (areasIn (a .m .now)) (a .rule) in
+    none-left p (wordsFrom (a .ws .now) (a .at)) (l .rest) (l .k) (a .n) (c .before .lenient .ensures (c .if2 .taken) _) (c .before .before .if1 .taken)
     ∙ l .inv .1
 
 first-requires : tie.Need-first-requires Inv-loop μ-loop
@@ -49,9 +50,9 @@ keeps-requires c κs = search needs
 
 returns-2 : tie.Need-returns-2 Inv-loop μ-loop
 returns-2 c =
-    let a = c .before .before .before .before .before .before .before .before .before .before .before .args in
+    let a = c .before .before .before .before .before .before .before .before .args in
     let l = c .before .before .before .before .before .before .loop in
-    let p = asked (a .constants .now) (a .overrides .now) (a .globals .now) (a .rule) in
+    let p = asked (areasIn (a .m .now)) (a .rule) in
     turn p (wordsFrom (a .ws .now) (a .at)) (l .rest) (l .k) (a .n) (c .before .before .before .before .before .loop-test .taken) (c .before .before .before .first .ensures)
     (c .before .before .word .ensures) (c .before .keeps .ensures) (not-true _ (c .if3 .taken))
     ∙ l .inv .1
@@ -64,9 +65,9 @@ loop-less c = search needs
 
 loop-again : tie.Need-loop-again Inv-loop μ-loop
 loop-again c =
-    let a = c .before .before .before .before .before .before .before .before .before .before .before .args in
+    let a = c .before .before .before .before .before .before .before .before .args in
     let l = c .before .before .before .before .before .before .loop in
-    let p = asked (a .constants .now) (a .overrides .now) (a .globals .now) (a .rule) in
+    let p = asked (areasIn (a .m .now)) (a .rule) in
     let e =
     turn p (wordsFrom (a .ws .now) (a .at)) (l .rest) (l .k) (a .n) (c .before .before .before .before .before .loop-test .taken) (c .before .before .before .first .ensures)
     (c .before .before .word .ensures) (c .before .keeps .ensures) (not-false _ (c .if3 .left)) in
@@ -74,9 +75,9 @@ loop-again c =
 
 returns-3 : tie.Need-returns-3 Inv-loop μ-loop
 returns-3 c =
-    let a = c .before .before .before .before .before .before .args in
+    let a = c .before .before .before .args in
     let l = c .before .loop in
-    let p = asked (a .constants .now) (a .overrides .now) (a .globals .now) (a .rule) in
+    let p = asked (areasIn (a .m .now)) (a .rule) in
     done p (wordsFrom (a .ws .now) (a .at)) (l .rest) (l .k) (a .n) (c .loop-test .left) ∙ l .inv .1
 
 pub slots-keep-spec : {M : Type 1} → statement M

@@ -7,19 +7,19 @@ use native.Mathlib.Omega.{arith}
 use lib.ListN.{length-replicate}
 use borrow.Author.Needs.{needs}
 use borrow.Author.Tests.{ltb-true, ltb-false}
-use Rattle.definitions.specs.Areas.{areasOf}
-use Rattle.tandem.specs.Deps.{sizing, Held}
+use Rattle.arena.specs.Lent.{areasIn}
+use Rattle.tandem.specs.Deps.{Held}
 use Rattle.tandem.proofs.Turns.{Turns, at-start, one-visit, at-end}
 use Rattle.tandem.proofs.type_expression_tandem.Statement.{statement}
 use Rattle.tandem.proofs.type_expression_tandem.Tie as tie
 
 abbrev Inv-loop : tie.InvT-loop
-Inv-loop marks₀ b left budget types constants overrides globals expressions members components mentions starts block₀ held₀ rest₀ n₀ marks block held rest n =
-    Turns (areasOf types constants overrides globals expressions members components mentions) b left budget marks₀ rest n marks
-    × Held (sizing types overrides) held block
+Inv-loop marks₀ b all budget m starts block₀ held₀ rest₀ n₀ marks block held rest n =
+    Turns (areasIn m) b all budget marks₀ rest n marks
+    × Held (areasIn m) held block
 
 abbrev μ-loop : tie.MeasureT-loop
-μ-loop marks₀ b left budget types constants overrides globals expressions members components mentions starts block₀ held₀ rest₀ n₀ marks block held rest n = n
+μ-loop marks₀ b all budget m starts block₀ held₀ rest₀ n₀ marks block held rest n = n
 
 fill-starts-requires : tie.Need-fill-starts-requires Inv-loop μ-loop
 fill-starts-requires c κs = length-replicate {A = ℕ} 256 0

@@ -1,8 +1,7 @@
 -- `tandem::visit` meets its contract: the youngest expression is visited where it is above dep, else the youngest type.
 -- Assumes nothing.
 use borrow.Author.Needs.{needs}
-use Rattle.definitions.specs.Areas.{areasOf}
-use Rattle.tandem.specs.Deps.{sizing}
+use Rattle.arena.specs.Lent.{areasIn}
 use Rattle.tandem.proofs.Turns.{some-type, visit-expression, visit-type}
 use Rattle.tandem.proofs.visit.Statement.{statement}
 use Rattle.tandem.proofs.visit.Tie as tie
@@ -21,17 +20,17 @@ same-length c = search needs
 
 returns : tie.Need-returns
 returns c =
-    let o = c .before .before .before .before .before .before .before .before .before .before .before .before .before .before .before .before in
+    let o = c .before .before .before .before .before .before .before .before in
     let a = o .args in
-    let s = areasOf (a .types .now) (a .constants .now) (a .overrides .now) (a .globals .now) (a .expressions .now) (a .members .now) (a .components .now) (a .mentions .now) in
-    visit-expression s (a .b) (a .left .types) (a .left .expressions) (o .pre .0) (c .before .before .before .before .before .if1 .taken)
+    let s = areasIn (a .m .now) in
+    visit-expression s (a .b) (a .rest .types) (a .rest .expressions) (o .pre .0) (c .before .before .before .before .before .if1 .taken)
     (c .before .before .trace-expression .ensures)
 
 sub-t : tie.Need-sub-t
 sub-t c =
-    let o = c .before .before .before .before .before .before .before .before .before .before .before .before in
+    let o = c .before .before .before .before in
     let a = o .args in
-    some-type (sizing (a .types .now) (a .overrides .now)) (a .left .types) (a .left .expressions) (o .pre .0) (c .before .if1 .left) (o .pre .1)
+    some-type (areasIn (a .m .now)) (a .rest .types) (a .rest .expressions) (o .pre .0) (c .before .if1 .left) (o .pre .1)
 
 trace-type-requires : tie.Need-trace-type-requires
 trace-type-requires c κs = search needs
@@ -41,10 +40,10 @@ same-length-2 c = search needs
 
 returns-2 : tie.Need-returns-2
 returns-2 c =
-    let o = c .before .before .before .before .before .before .before .before .before .before .before .before .before .before .before .before in
+    let o = c .before .before .before .before .before .before .before .before in
     let a = o .args in
-    let s = areasOf (a .types .now) (a .constants .now) (a .overrides .now) (a .globals .now) (a .expressions .now) (a .members .now) (a .components .now) (a .mentions .now) in
-    visit-type s (a .b) (a .left .types) (a .left .expressions) (o .pre .0) (c .before .before .before .before .before .if1 .left) (o .pre .1)
+    let s = areasIn (a .m .now) in
+    visit-type s (a .b) (a .rest .types) (a .rest .expressions) (o .pre .0) (c .before .before .before .before .before .if1 .left) (o .pre .1)
     (c .before .before .trace-type .ensures)
 
 pub visit-spec : {M : Type 1} → statement M

@@ -7,7 +7,7 @@ use Rattle.definitions.specs.Areas.{Areas}
 use Rattle.arena.specs.Elements.{elementOf}
 use Rattle.arena.specs.declared.Element.{Element}
 use Rattle.arena.specs.declared.handle_set.Bases.{Bases}
-use Rattle.slots.specs.Part.{part}
+use Rattle.arena.specs.Lent.{areasIn}
 use Rattle.trace.specs.Bits.{Marked}
 use Rattle.trace.proofs.Behind.{marked-as, marked-type, marked-expression}
 use borrow.Author.Needs.{needs}
@@ -53,8 +53,8 @@ same-length c = search needs
 
 returns : tie.Need-returns
 returns c =
-    let a = c .before .before .before .before .before .before .before .before .before .before .before .args in
-    let s = part (a .constants .now) (a .overrides .now) (a .globals .now) in
+    let a = c .before .before .before .before .before .before .before .before .args in
+    let s = areasIn (a .m .now) in
     arm s (a .b) (c .before .before .before .before .before .x .given .1) (marked-type s (a .b) _ (c .before .before .insert .ensures))
 
 same-length-2 : tie.Need-same-length-2
@@ -62,35 +62,35 @@ same-length-2 c = search needs
 
 returns-2 : tie.Need-returns-2
 returns-2 c =
-    let a = c .before .before .before .before .before .before .before .before .before .before .before .args in
-    let s = part (a .constants .now) (a .overrides .now) (a .globals .now) in
-    arm s (a .b) (c .before .before .before .before .before .x2 .given .1) (c .before .before .mark-constant .ensures (a .overrides .now) (a .globals .now))
+    let a = c .before .before .before .before .before .before .before .before .args in
+    let s = areasIn (a .m .now) in
+    arm s (a .b) (c .before .before .before .before .before .x2 .given .1) (c .before .before .mark-constant .ensures)
 
 same-length-3 : tie.Need-same-length-3
 same-length-3 c = search needs
 
 returns-3 : tie.Need-returns-3
 returns-3 c =
-    let a = c .before .before .before .before .before .before .before .before .before .before .before .args in
-    let s = part (a .constants .now) (a .overrides .now) (a .globals .now) in
-    arm s (a .b) (c .before .before .before .before .before .x3 .given .1) (c .before .before .mark-override .ensures (a .constants .now) (a .globals .now))
+    let a = c .before .before .before .before .before .before .before .before .args in
+    let s = areasIn (a .m .now) in
+    arm s (a .b) (c .before .before .before .before .before .x3 .given .1) (c .before .before .mark-override .ensures)
 
 same-length-4 : tie.Need-same-length-4
 same-length-4 c = search needs
 
 returns-4 : tie.Need-returns-4
 returns-4 c =
-    let a = c .before .before .before .before .before .before .before .before .before .before .before .args in
-    let s = part (a .constants .now) (a .overrides .now) (a .globals .now) in
-    arm s (a .b) (c .before .before .before .before .before .x4 .given .1) (c .before .before .mark-global .ensures (a .constants .now) (a .overrides .now))
+    let a = c .before .before .before .before .before .before .before .before .args in
+    let s = areasIn (a .m .now) in
+    arm s (a .b) (c .before .before .before .before .before .x4 .given .1) (c .before .before .mark-global .ensures)
 
 same-length-5 : tie.Need-same-length-5
 same-length-5 c = search needs
 
 returns-5 : tie.Need-returns-5
 returns-5 c =
-    let a = c .before .before .before .before .before .before .before .before .before .before .before .args in
-    let s = part (a .constants .now) (a .overrides .now) (a .globals .now) in
+    let a = c .before .before .before .before .before .before .before .before .args in
+    let s = areasIn (a .m .now) in
     arm s (a .b) (c .before .before .before .before .before .x5 .given .1) (marked-expression s (a .b) _ (c .before .before .insert2 .ensures))
 
 pub mark-spec : {M : Type 1} → statement M

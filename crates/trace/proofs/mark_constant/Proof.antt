@@ -1,6 +1,6 @@
 -- `trace::mark_constant` meets its contract.
 -- Assumes nothing.
-use Rattle.slots.specs.Part.{part}
+use Rattle.arena.specs.Lent.{areasIn}
 use Rattle.trace.proofs.Sets.{put-one, put-more}
 use Rattle.trace.proofs.Behind.{marked-one, behind-constant}
 use borrow.Author.Needs.{needs}
@@ -26,9 +26,9 @@ same-length : tie.Need-same-length
 same-length c = search needs
 
 returns : tie.Need-returns
-returns c o g =
-    let a = c .before .before .before .before .before .before .before .before .before .before .before .before .before .before .before .before .args in
-    let s = part (a .constants .now) o g in
+returns c =
+    let a = c .before .before .before .before .before .before .before .before .before .before .before .before .before .before .before .args in
+    let s = areasIn (a .m .now) in
     marked-one s (a .b) _ _ (behind-constant s _ (c .before .before .before .before .before .before .before .before .ty .ensures) (c .before .before .before .init .ensures)) (c .before .before .before .before .before .before .before .before .before .before .before .before .insert .ensures)
     (put-more _ _ (put-one (c .before .before .before .before .before .before .before .insert2 .ensures)) (put-one (c .before .before .insert3 .ensures)))
 

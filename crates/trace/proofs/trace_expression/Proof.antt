@@ -1,9 +1,9 @@
--- `trace::trace_expression` meets its contract: the visit of an expression is the module's.
+-- `trace::trace_expression` meets its contract.
 -- Assumes nothing.
 use mathlib.Core.Path.{sym, _∙_}
-use Rattle.definitions.specs.Areas.{areasOf, at, expressions, words, numbered, pool}
-use Rattle.slots.specs.Part.{part}
-use Rattle.trace.proofs.Visit.{visit-unmarked, visit-in}
+use Rattle.definitions.specs.Areas.{at, expressions, numbered}
+use Rattle.arena.specs.Lent.{areasIn}
+use Rattle.trace.proofs.Visit.{visit-unmarked}
 use borrow.Author.Needs.{needs}
 use Rattle.trace.proofs.trace_expression.Statement.{statement}
 use Rattle.trace.proofs.trace_expression.Tie as tie
@@ -18,22 +18,16 @@ same-length : tie.Need-same-length
 same-length c = search needs
 
 returns : tie.Need-returns
-unfolding numbered words pool
-returns c =
-    let a = c .before .before .before .before .before .before .before .before .before .before .before .before .before .before .before .before .args in
-    let s = areasOf (a .types .now) (a .constants .now) (a .overrides .now) (a .globals .now) (a .expressions .now) (a .members .now) (a .components .now) (a .mentions .now) in
-    visit-in s (a .b) expressions (a .h .0) (c .before .before .trace .ensures)
+unfolding numbered
+returns c = c .before .before .trace .ensures
 
 same-length-2 : tie.Need-same-length-2
 same-length-2 c = search needs
 
 returns-2 : tie.Need-returns-2
-unfolding numbered words pool
 returns-2 c =
-    let a = c .before .before .before .before .before .before .before .before .before .before .before .before .args in
-    let s = areasOf (a .types .now) (a .constants .now) (a .overrides .now) (a .globals .now) (a .expressions .now) (a .members .now) (a .components .now) (a .mentions .now) in
-    let p = part (a .constants .now) (a .overrides .now) (a .globals .now) in
-    visit-in s (a .b) expressions (a .h .0) (visit-unmarked p (a .b) (at expressions (a .h .0)) _ _ (sym (c .if1 .left) ∙ c .before .contains .ensures))
+    let a = c .before .before .before .before .args in
+    visit-unmarked (areasIn (a .m .now)) (a .b) (at expressions (a .h .0)) (sym (c .if1 .left) ∙ c .before .contains .ensures)
 
 pub trace-expression-spec : {M : Type 1} → statement M
 trace-expression-spec =

@@ -8,7 +8,7 @@ use native.Mathlib.Omega.{arith}
 use borrow.Author.Tests.{eqb-true, not-false}
 use Rattle.definitions.specs.References.{namedBy, namedFrom}
 use Rattle.slots.specs.Codes.{decoded, unpacked, wordsFrom}
-use Rattle.slots.specs.Part.{part}
+use Rattle.arena.specs.Lent.{areasIn}
 use Rattle.slots.proofs.Laws.{named-none}
 use Rattle.trace.specs.Bits.{bitsOf}
 use Rattle.trace.proofs.Sets.{Left}
@@ -35,13 +35,13 @@ module _ (f : ℕ → ℕ) (rest k : ℕ) where
   all-passed h = let m : 10 - k ≡ 0 = omega arith in rw m
 
 abbrev Inv-loop : tie.InvT-loop
-Inv-loop marks₀ b ws at shape constants overrides globals rest₀ k₀ marks rest k =
-    let s = part constants overrides globals in
+Inv-loop marks₀ b ws at shape m rest₀ k₀ marks rest k =
+    let s = areasIn m in
     let f = wordsFrom ws at in
     (k ≤ 10) × Left (bitsOf s b (namedFrom f 0 (unpacked shape 10))) marks₀ (bitsOf s b (namedFrom f k (unpacked rest (10 - k)))) marks
 
 abbrev μ-loop : tie.MeasureT-loop
-μ-loop marks₀ b ws at shape constants overrides globals rest₀ k₀ marks rest k = 10 - k
+μ-loop marks₀ b ws at shape m rest₀ k₀ marks rest k = 10 - k
 
 loop-holds : tie.Need-loop-holds Inv-loop μ-loop
 loop-holds c = (search needs, λ u p. p)
@@ -60,18 +60,18 @@ loop-less c = search needs
 
 loop-again : tie.Need-loop-again Inv-loop μ-loop
 loop-again c =
-    let a = c .before .before .before .before .before .before .before .before .before .before .before .before .before .args in
+    let a = c .before .before .before .before .before .before .before .before .before .before .args in
     let l = c .before .before .before .before .before .before .before .loop in
-    let s = part (a .constants .now) (a .overrides .now) (a .globals .now) in
+    let s = areasIn (a .m .now) in
     let f = wordsFrom (a .ws .now) (a .at) in
     let x = turn f (l .rest) (l .k) (omega arith) (c .before .before .before .word .ensures) in
-    (search needs, marked-turn s (a .b) _ _ _ _ x (c .before .before .trace-slot .ensures (a .globals .now)) (l .inv .1))
+    (search needs, marked-turn s (a .b) _ _ _ _ x (c .before .before .trace-slot .ensures) (l .inv .1))
 
 returns : tie.Need-returns Inv-loop μ-loop
 returns c =
-    let a = c .before .before .before .before .before .before .before .before .args in
+    let a = c .before .before .before .before .before .args in
     let l = c .before .before .loop in
-    let s = part (a .constants .now) (a .overrides .now) (a .globals .now) in
+    let s = areasIn (a .m .now) in
     let f = wordsFrom (a .ws .now) (a .at) in
     marked-done s (a .b) _ _ (none-left f (l .rest) (l .k) (eqb-true _ _ (not-false _ (c .if1 .left)))) (l .inv .1)
 
@@ -80,9 +80,9 @@ same-length c = returns c .as-long
 
 returns-2 : tie.Need-returns-2 Inv-loop μ-loop
 returns-2 c =
-    let a = c .before .before .before .before .before .before .before .args in
+    let a = c .before .before .before .before .args in
     let l = c .before .loop in
-    let s = part (a .constants .now) (a .overrides .now) (a .globals .now) in
+    let s = areasIn (a .m .now) in
     let f = wordsFrom (a .ws .now) (a .at) in
     marked-done s (a .b) _ _ (all-passed f (l .rest) (l .k) (c .loop-test .left)) (l .inv .1)
 

@@ -6,6 +6,9 @@ use Rattle.definitions.specs.Areas.{limits}
 use Rattle.arena.proofs.records.limit.Statement.{statement}
 use Rattle.arena.proofs.records.limit.Tie as tie
 
+cast-if1 : tie.Need-cast-if1
+cast-if1 c = search needs
+
 mul-result : tie.Need-mul-result
 mul-result c = search needs
 
@@ -21,4 +24,4 @@ unfolding limits
 returns-2 c = sym (List·getD-eq-default limits 0 (c .if1 .left))
 
 pub limit-spec : {M : Type 1} → statement M
-limit-spec = tie.close (tie.spec mul-result array-read-result returns returns-2)
+limit-spec = tie.close (tie.spec cast-if1 mul-result array-read-result returns returns-2)

@@ -7,6 +7,9 @@ use Rattle.definitions.proofs.Judged.{getD-any}
 use Rattle.arena.proofs.records.width.Statement.{statement}
 use Rattle.arena.proofs.records.width.Tie as tie
 
+cast-if1 : tie.Need-cast-if1
+cast-if1 c = search needs
+
 mul-result : tie.Need-mul-result
 mul-result c = search needs
 
@@ -22,4 +25,4 @@ unfolding widths width
 returns-2 c = sym (List·getD-eq-default widths 1 (c .if1 .left))
 
 pub width-spec : {M : Type 1} → statement M
-width-spec = tie.close (tie.spec mul-result array-read-result returns returns-2)
+width-spec = tie.close (tie.spec cast-if1 mul-result array-read-result returns returns-2)

@@ -8,16 +8,16 @@ returns : tie.Need-returns
 returns c = rw (ne-eqb _ _ (c .if1 .taken))
 
 returns-2 : tie.Need-returns-2
-returns-2 c = rw (eq-eqb _ _ (c .before .before .if1 .left), ne-eqb _ _ (c .if2 .taken))
+returns-2 c = rw (eq-eqb _ _ (c .before .before .before .if1 .left), ne-eqb _ _ (c .if2 .taken))
 
 returns-3 : tie.Need-returns-3
-returns-3 c = rw (eq-eqb _ _ (c .before .before .before .before .if1 .left), eq-eqb _ _ (c .before .before .if2 .left), ne-eqb _ _ (c .if3 .taken))
+returns-3 c = rw (eq-eqb _ _ (c .before .before .before .before .before .before .if1 .left), eq-eqb _ _ (c .before .before .before .if2 .left), ne-eqb _ _ (c .if3 .taken))
 
 returns-4 : tie.Need-returns-4
-returns-4 c = rw (eq-eqb _ _ (c .before .before .before .before .before .before .if1 .left), eq-eqb _ _ (c .before .before .before .before .if2 .left), eq-eqb _ _ (c .before .before .if3 .left), ne-eqb _ _ (c .if4 .taken))
+returns-4 c = rw (eq-eqb _ _ (c .before .before .before .before .before .before .before .before .before .if1 .left), eq-eqb _ _ (c .before .before .before .before .before .before .if2 .left), eq-eqb _ _ (c .before .before .before .if3 .left), ne-eqb _ _ (c .if4 .taken))
 
 returns-5 : tie.Need-returns-5
-returns-5 c = rw (eq-eqb _ _ (c .before .before .before .before .before .before .before .if1 .left), eq-eqb _ _ (c .before .before .before .before .before .if2 .left), eq-eqb _ _ (c .before .before .before .if3 .left), eq-eqb _ _ (c .before .if4 .left))
+returns-5 c = rw (eq-eqb _ _ (c .before .before .before .before .before .before .before .before .before .before .before .if1 .left), eq-eqb _ _ (c .before .before .before .before .before .before .before .before .if2 .left), eq-eqb _ _ (c .before .before .before .before .before .if3 .left), eq-eqb _ _ (c .before .before .if4 .left))
 
 pub all-kept-spec : {M : Type 1} → statement M
 all-kept-spec = tie.close (tie.spec returns returns-2 returns-3 returns-4 returns-5)

@@ -5,6 +5,12 @@ use borrow.Author.Needs.{needs}
 use Rattle.compact.proofs.keep.mark.Statement.{statement}
 use Rattle.compact.proofs.keep.mark.Tie as tie
 
+of-requires : tie.Need-of-requires
+of-requires c κs = search needs
+
+of-requires-2 : tie.Need-of-requires-2
+of-requires-2 c κs = search needs
+
 mark-roots-requires : tie.Need-mark-roots-requires
 mark-roots-requires c κs = search needs
 
@@ -25,14 +31,16 @@ same-length c = search needs
 
 returns : tie.Need-returns
 returns c =
-    let d = c .before .before .before .before .before .before .before .before .before .before .before .before .before .before .before .before .before .before .before in
-    marking _ (d .pre .0) (d .args .keep) (d .args .z) (d .args .b) (d .pre .1) (d .pre .2) (d .pre .3) (c .before .before .before .before .before .before .before .before .mark-roots .ensures)
-    (c .before .before .type-expression-tandem .ensures .1)
+    let d = c .before .before .before .before .before .before .before .before .before .before .before .before .before .before .before .before .before .before .before .before .before .before .before .before in
+    marking _ (d .pre .0) (d .args .keep) _ _ (c .before .before .before .before .before .before .before .before .before .before .before .before .before .of .ensures) (c .before .before .before .before .before .before .before .before .before .before .before .before .of2 .ensures) (d .pre .1)
+    (c .before .before .before .before .before .before .before .before .before .mark-roots .ensures) (c .before .before .type-expression-tandem .ensures .1)
 
 pub mark-spec : {M : Type 1} → statement M
 mark-spec =
     tie.close
     (tie.spec
+    of-requires
+    of-requires-2
     mark-roots-requires
     cast-type-expression-tandem
     cast-type-expression-tandem-2

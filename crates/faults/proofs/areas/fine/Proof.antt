@@ -4,6 +4,7 @@ use mathlib.Core.Path.{sym, subst}
 use Prim.Native.Nat.{_<_}
 use native.Mathlib.Omega.{arith}
 use borrow.Author.Needs.{needs}
+use Rattle.arena.specs.Lent.{areasIn}
 use Rattle.faults.proofs.Lengths.{arenas, areas-le, wide, whole, few, roomy}
 use Rattle.faults.proofs.areas.fine.Statement.{statement}
 use Rattle.faults.proofs.areas.fine.Tie as tie
@@ -17,11 +18,8 @@ below-five c = omega (arith, arenas (c .before .before .before .args .number) (c
 wide-enough : (c : tie.After-width) → 0 < c .width .result
 wide-enough c = subst (λ w. 0 < w) (sym (c .width .ensures)) (wide (c .before .before .args .area) (below-eight (c .before .before)))
 
-mul-length : tie.Need-mul-length
-mul-length c = omega (arith, below-eight c)
-
-element-copy-out-length : tie.Need-element-copy-out-length
-element-copy-out-length c = below-eight c
+length-requires : tie.Need-length-requires
+length-requires c κs = search needs
 
 width-requires : tie.Need-width-requires
 width-requires c κs = search needs
@@ -45,24 +43,23 @@ element-copy-out-result : tie.Need-element-copy-out-result
 element-copy-out-result c = below-five c
 
 returns : tie.Need-returns
-returns c = let a = c .before .before .before .args in whole (a .lengths .now) (a .maps .now) (a .number) (a .area) _ (c .before .width .ensures) (c .match .keys1)
+returns c = let a = c .before .before .before .args in whole (areasIn (a .m .now)) (a .maps .now) (a .number) (a .area) _ _ (c .before .before .length .ensures) (c .before .width .ensures) (c .match .keys1)
 
 returns-2 : tie.Need-returns-2
 returns-2 c =
     let a = c .before .before .before .before .args in
-    few (a .lengths .now) (a .maps .now) (a .number) (a .area) _ (c .before .before .width .ensures) _ (c .before .match .keys2) (c .limit .ensures)
+    few (areasIn (a .m .now)) (a .maps .now) (a .number) (a .area) _ _ (c .before .before .before .length .ensures) (c .before .before .width .ensures) _ (c .before .match .keys2) (c .limit .ensures)
 
 returns-3 : tie.Need-returns-3
 returns-3 c =
     let a = c .before .before .before .before .args in
-    roomy (a .lengths .now) (a .maps .now) (a .number) (a .area) _ (c .before .before .width .ensures) (c .before .match .rest .0 .1) (c .before .match .rest .1)
+    roomy (areasIn (a .m .now)) (a .maps .now) (a .number) (a .area) _ _ (c .before .before .before .length .ensures) (c .before .before .width .ensures) (c .before .match .rest .0 .1) (c .before .match .rest .1)
 
 pub fine-spec : {M : Type 1} → statement M
 fine-spec =
     tie.close
     (tie.spec
-    mul-length
-    element-copy-out-length
+    length-requires
     width-requires
     rem-result
     div-result

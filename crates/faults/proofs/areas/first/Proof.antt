@@ -6,6 +6,7 @@ use native.Mathlib.Omega.{arith}
 use borrow.Author.Tests.{not-true, not-false}
 use borrow.Author.Needs.{needs}
 use Rattle.definitions.specs.Refusals.{refused, scan, scanAreas}
+use Rattle.arena.specs.Lent.{areasIn}
 use Rattle.faults.specs.Checking.{areaOk, areasAt}
 use Rattle.faults.proofs.Lengths.{areas-le}
 use Rattle.faults.proofs.Scans.{scan-whole, scan-on, scan-stop, scan-end}
@@ -13,12 +14,12 @@ use Rattle.faults.proofs.areas.first.Statement.{statement}
 use Rattle.faults.proofs.areas.first.Tie as tie
 
 abbrev Inv-loop : tie.InvT-loop
-Inv-loop number lengths maps n area₀ area =
+Inv-loop number maps m n area₀ area =
     (n ≡ areasAt number)
-    × (scan (areaOk lengths maps number) (λ a. refused number a 0) area (n - area) ≡ scanAreas number (areaOk lengths maps number) n)
+    × (scan (areaOk (areasIn m) maps number) (λ a. refused number a 0) area (n - area) ≡ scanAreas number (areaOk (areasIn m) maps number) n)
 
 abbrev μ-loop : tie.MeasureT-loop
-μ-loop number lengths maps n area₀ area = n - area
+μ-loop number maps m n area₀ area = n - area
 
 areas-at-requires : tie.Need-areas-at-requires Inv-loop μ-loop
 areas-at-requires c κs = search needs

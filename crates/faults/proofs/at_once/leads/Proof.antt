@@ -9,10 +9,10 @@ prefix-requires : tie.Need-prefix-requires
 prefix-requires c κs = search needs
 
 returns : tie.Need-returns
-returns c = rw (eq-eqb (c .before .before .before .before .args .area) 4 (c .before .if1 .taken)) (c .prefix .ensures)
+returns c = rw (eq-eqb (c .before .before .args .area) 4 (c .before .if1 .taken)) (c .prefix .ensures)
 
 returns-2 : tie.Need-returns-2
-returns-2 c = rw (ne-eqb (c .before .before .before .args .area) 4 (c .if1 .left))
+returns-2 c = rw (ne-eqb (c .before .args .area) 4 (c .if1 .left))
 
 pub leads-spec : {M : Type 1} → statement M
 leads-spec = tie.close (tie.spec prefix-requires returns returns-2)

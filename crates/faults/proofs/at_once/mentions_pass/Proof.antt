@@ -5,21 +5,21 @@ use native.Mathlib.Nat.{not-suc-le-zero}
 use native.Mathlib.Omega.{arith}
 use borrow.Author.Needs.{needs}
 use borrow.Author.Tests.{lt-ltb}
-use Rattle.definitions.specs.Areas.{Areas, areasOf}
+use Rattle.definitions.specs.Areas.{Areas}
+use Rattle.arena.specs.Lent.{areasIn}
 use Rattle.faults.proofs.AtOnce.{not-both, MentionGood, mention-on, mentions-passed}
 use Rattle.faults.proofs.at_once.mentions_pass.Statement.{statement}
 use Rattle.faults.proofs.at_once.mentions_pass.Tie as tie
 
 abbrev Inv-loop : tie.InvT-loop
-Inv-loop z types constants overrides globals expressions members components mentions n i₀ i =
-    (j : ℕ) → j < i → MentionGood (areasOf types constants overrides globals expressions members components mentions) j
+Inv-loop z m n i₀ i = (j : ℕ) → j < i → MentionGood (areasIn m) j
 
 abbrev μ-loop : tie.MeasureT-loop
-μ-loop z types constants overrides globals expressions members components mentions n i₀ i = n - i
+μ-loop z m n i₀ i = n - i
 
--- the eight areas
+-- the module
 abbrev Given : tie.Start Inv-loop μ-loop → Areas
-Given d = areasOf (d .args .types .now) (d .args .constants .now) (d .args .overrides .now) (d .args .globals .now) (d .args .expressions .now) (d .args .members .now) (d .args .components .now) (d .args .mentions .now)
+Given d = areasIn (d .args .m .now)
 
 loop-holds : tie.Need-loop-holds Inv-loop μ-loop
 loop-holds c = λ j l. absurd (not-suc-le-zero l)
@@ -47,10 +47,10 @@ loop-less c = omega arith
 
 loop-again : tie.Need-loop-again Inv-loop μ-loop
 loop-again c =
-    mention-on (Given (c .before .before .before .before .before .before .before .before .before .before .before .before .before .before .before)) (c .before .before .before .before .before .before .loop .i) (c .before .before .before .before .before .before .loop .inv) (c .before .before .before .before .area .ensures) (c .before .handle .ensures) (c .before .before .before .before .before .before .before .before .before .before .before .before .before .before .before .pre .1) (c .before .before .own-size .ensures) (lt-ltb _ 5 (c .before .before .before .if1 .left)) (lt-ltb _ _ (c .if2 .left))
+    mention-on (Given (c .before .before .before .before .before .before .before)) (c .before .before .before .before .before .before .loop .i) (c .before .before .before .before .before .before .loop .inv) (c .before .before .before .before .area .ensures) (c .before .handle .ensures) (c .before .before .before .before .before .before .before .pre .1) (c .before .before .own-size .ensures) (lt-ltb _ 5 (c .before .before .before .if1 .left)) (lt-ltb _ _ (c .if2 .left))
 
 returns-3 : tie.Need-returns-3 Inv-loop μ-loop
-returns-3 c e = mentions-passed (Given (c .before .before .before .before .before .before .before .before .before .before)) (c .before .loop .i) (c .before .before .before .before .before .before .before .before .before .before .pre .1) (c .loop-test .left) (c .before .loop .inv)
+returns-3 c e = mentions-passed (Given (c .before .before)) (c .before .loop .i) (c .before .before .pre .1) (c .loop-test .left) (c .before .loop .inv)
 
 pub mentions-pass-spec : {M : Type 1} → statement M
 mentions-pass-spec =

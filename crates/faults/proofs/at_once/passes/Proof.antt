@@ -7,7 +7,8 @@ use native.Mathlib.Nat.{not-suc-le-zero}
 use native.Mathlib.Omega.{arith}
 use borrow.Author.Needs.{needs}
 use borrow.Author.Tests.{not-false}
-use Rattle.definitions.specs.Areas.{Areas, areasOf, numbered}
+use Rattle.definitions.specs.Areas.{Areas, numbered}
+use Rattle.arena.specs.Lent.{areasIn}
 use Rattle.arena.specs.Sizes.{sizesOf}
 use Rattle.faults.specs.Checking.{Passed, Used}
 use Rattle.faults.proofs.Arenas.{sizes-are}
@@ -27,19 +28,18 @@ more s n f h a l = elim (ℕ-discrete a n) [
 ]
 
 abbrev Inv-loop : tie.InvT-loop
-Inv-loop types constants overrides globals expressions members components mentions z area₀ area =
-    Arenas (areasOf types constants overrides globals expressions members components mentions) area
+Inv-loop m z area₀ area = Arenas (areasIn m) area
 
 abbrev μ-loop : tie.MeasureT-loop
-μ-loop types constants overrides globals expressions members components mentions z area₀ area = 5 - area
+μ-loop m z area₀ area = 5 - area
 
--- the eight areas
+-- the module
 abbrev Given : tie.Start Inv-loop μ-loop → Areas
-Given d = areasOf (d .args .types .now) (d .args .constants .now) (d .args .overrides .now) (d .args .globals .now) (d .args .expressions .now) (d .args .members .now) (d .args .components .now) (d .args .mentions .now)
+Given d = areasIn (d .args .m .now)
 
 -- the sizes that were counted are the module's
-sizes : (c : tie.After-of Inv-loop μ-loop) → c .of .result ≡ sizesOf (Given (c .before .before .before .before .before .before .before .before .before))
-sizes c = let d = c .before .before .before .before .before .before .before .before .before in sizes-are (Given d) (d .pre) (c .of .ensures)
+sizes : (c : tie.After-of Inv-loop μ-loop) → c .of .result ≡ sizesOf (Given (c .before))
+sizes c = let d = c .before in sizes-are (Given d) (d .pre) (c .of .ensures)
 
 of-requires : tie.Need-of-requires Inv-loop μ-loop
 of-requires c κs = search needs
@@ -48,7 +48,7 @@ loop-holds : tie.Need-loop-holds Inv-loop μ-loop
 loop-holds c = λ a l. absurd (not-suc-le-zero l)
 
 arena-passes-requires : tie.Need-arena-passes-requires Inv-loop μ-loop
-arena-passes-requires c κs = (c .loop-test .taken, (c .before .before .before .before .before .before .before .before .before .before .before .pre, sizes (c .before .before)))
+arena-passes-requires c κs = (c .loop-test .taken, (c .before .before .before .pre, sizes (c .before .before)))
 
 returns : tie.Need-returns Inv-loop μ-loop
 returns c e = absurd (not-both e)
@@ -60,13 +60,13 @@ loop-less : tie.Need-loop-less Inv-loop μ-loop
 loop-less c = omega arith
 
 loop-again : tie.Need-loop-again Inv-loop μ-loop
-loop-again c = more (Given (c .before .before .before .before .before .before .before .before .before .before .before .before .before)) (c .before .before .before .loop .area) (c .before .before .before .loop .inv) (c .before .arena-passes .ensures (not-false _ (c .if1 .left)))
+loop-again c = more (Given (c .before .before .before .before .before)) (c .before .before .before .loop .area) (c .before .before .before .loop .inv) (c .before .arena-passes .ensures (not-false _ (c .if1 .left)))
 
 mentions-pass-requires : tie.Need-mentions-pass-requires Inv-loop μ-loop
-mentions-pass-requires c κs = (c .before .before .before .before .before .before .before .before .before .before .before .pre, sizes (c .before .before))
+mentions-pass-requires c κs = (c .before .before .before .pre, sizes (c .before .before))
 
 returns-2 : tie.Need-returns-2 Inv-loop μ-loop
-returns-2 c e = no-fault (Given (c .before .before .before .before .before .before .before .before .before .before .before .before)) (λ a l. c .before .before .loop .inv a (omega arith)) (c .mentions-pass .ensures e)
+returns-2 c e = no-fault (Given (c .before .before .before .before)) (λ a l. c .before .before .loop .inv a (omega arith)) (c .mentions-pass .ensures e)
 
 pub passes-spec : {M : Type 1} → statement M
 passes-spec =

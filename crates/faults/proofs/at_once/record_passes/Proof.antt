@@ -32,7 +32,7 @@ returns : tie.Need-returns
 returns c = fails _ (c .before .record-good .ensures) (not-true _ (c .if1 .taken))
 
 returns-2 : tie.Need-returns-2
-returns-2 c = decides (c .before .before .before .record-good .ensures) (not-false _ (c .before .before .if1 .left)) (empty-run _ _ _ _ (sym (c .before .before .before .before .before .before .before .before .pre) ∙ c .if2 .taken))
+returns-2 c = decides (c .before .before .before .record-good .ensures) (not-false _ (c .before .before .if1 .left)) (empty-run _ _ _ _ (sym (c .before .before .before .before .before .before .pre) ∙ c .if2 .taken))
 
 run-requires : tie.Need-run-requires
 run-requires c κs = search needs
@@ -41,7 +41,7 @@ all-below-requires : tie.Need-all-below-requires
 all-below-requires c κs = search needs
 
 returns-3 : tie.Need-returns-3
-returns-3 c = decides (c .before .before .before .before .before .record-good .ensures) (not-false _ (c .before .before .before .before .if1 .left)) (c .all-below .ensures ∙ ap (all (λ w. ltb w (c .before .before .before .before .before .before .before .before .before .before .args .i))) (c .before .run .ensures))
+returns-3 c = decides (c .before .before .before .before .before .record-good .ensures) (not-false _ (c .before .before .before .before .if1 .left)) (c .all-below .ensures ∙ ap (all (λ w. ltb w (c .before .before .before .before .before .before .before .before .args .i))) (c .before .run .ensures))
 
 pub record-passes-spec : {M : Type 1} → statement M
 record-passes-spec =

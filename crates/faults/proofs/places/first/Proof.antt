@@ -5,8 +5,9 @@ use mathlib.Core.Logic.{⊎-elim}
 use Prim.Native.Nat.{ℕ, _-_, _<_}
 use native.Mathlib.Omega.{arith}
 use borrow.Author.Needs.{needs}
-use Rattle.definitions.specs.Areas.{Areas, areasOf}
+use Rattle.definitions.specs.Areas.{Areas}
 use Rattle.definitions.specs.Refusals.{Verdict, accepted, refused}
+use Rattle.arena.specs.Lent.{areasIn}
 use Rattle.arena.specs.Sizes.{sizesOf}
 use Rattle.faults.specs.declared.places.Place.{Place}
 use Rattle.faults.specs.declared.places.Place.the-variants.{At, Nowhere}
@@ -18,32 +19,29 @@ use Rattle.faults.proofs.places.first.Statement.{statement}
 use Rattle.faults.proofs.places.first.Tie as tie
 
 abbrev Inv-loop : tie.InvT-loop
-Inv-loop number types constants overrides globals expressions members components mentions z area n carried₀ i₀ carried i =
-    (carried ≡ carriedTo (areasOf types constants overrides globals expressions members components mentions) number area i)
-    × PlacesLeft (areasOf types constants overrides globals expressions members components mentions) number area n i
+Inv-loop number m z area n carried₀ i₀ carried i = (carried ≡ carriedTo (areasIn m) number area i) × PlacesLeft (areasIn m) number area n i
 
 abbrev μ-loop : tie.MeasureT-loop
-μ-loop number types constants overrides globals expressions members components mentions z area n carried₀ i₀ carried i = n - i
+μ-loop number m z area n carried₀ i₀ carried i = n - i
 
 abbrev Inv-areas : tie.InvT-areas
-Inv-areas number types constants overrides globals expressions members components mentions z area₀ area =
-    AreasLeft (areasOf types constants overrides globals expressions members components mentions) number area
+Inv-areas number m z area₀ area = AreasLeft (areasIn m) number area
 
 abbrev μ-areas : tie.MeasureT-areas
-μ-areas number types constants overrides globals expressions members components mentions z area₀ area = 8 - area
+μ-areas number m z area₀ area = 8 - area
 
--- the eight areas
+-- the module
 abbrev Given : tie.Start Inv-loop μ-loop Inv-areas μ-areas → Areas
-Given d = areasOf (d .args .types .now) (d .args .constants .now) (d .args .overrides .now) (d .args .globals .now) (d .args .expressions .now) (d .args .members .now) (d .args .components .now) (d .args .mentions .now)
+Given d = areasIn (d .args .m .now)
 
 -- the sizes that were counted are the module's
-sizes : (c : tie.After-of Inv-loop μ-loop Inv-areas μ-areas) → c .of .result ≡ sizesOf (Given (c .before .before .before .before .before .before .before .before .before))
-sizes c = let d = c .before .before .before .before .before .before .before .before .before in sizes-are (Given d) (d .pre .1) (c .of .ensures)
+sizes : (c : tie.After-of Inv-loop μ-loop Inv-areas μ-areas) → c .of .result ≡ sizesOf (Given (c .before))
+sizes c = let d = c .before in sizes-are (Given d) (d .pre .1) (c .of .ensures)
 
 -- how many places the area has
-there : (c : tie.After-places Inv-loop μ-loop Inv-areas μ-areas) → c .places .result ≡ placesAt (Given (c .before .before .before .before .before .before .before .before .before .before .before .before)) (c .before .before .before .before .before .before .before .before .before .before .before .before .args .number) (c .before .before .areas .area)
+there : (c : tie.After-places Inv-loop μ-loop Inv-areas μ-areas) → c .places .result ≡ placesAt (Given (c .before .before .before .before)) (c .before .before .before .before .args .number) (c .before .before .areas .area)
 there c =
-    let d = c .before .before .before .before .before .before .before .before .before .before .before .before in
+    let d = c .before .before .before .before in
     places-are (Given d) (d .args .number) (c .before .before .areas .area) (sizes (c .before .before .before)) (c .places .ensures)
 
 -- where the loops were left, as a verdict
@@ -51,9 +49,9 @@ abbrev placed : ℕ → Place → Verdict
 placed n (At a i) = refused n a i
 placed n Nowhere = accepted
 
-answer : (c : tie.Joined1 Inv-loop μ-loop Inv-areas μ-areas) → placed (c .before .before .before .before .before .before .before .before .before .before .before .args .number) (c .if1 .place) ≡ inTurn (scanArea (Given (c .before .before .before .before .before .before .before .before .before .before .before)) (c .before .before .before .before .before .before .before .before .before .before .before .args .number)) 0 8
+answer : (c : tie.Joined1 Inv-loop μ-loop Inv-areas μ-areas) → placed (c .before .before .before .args .number) (c .if1 .place) ≡ inTurn (scanArea (Given (c .before .before .before)) (c .before .before .before .args .number)) 0 8
 answer c =
-    let d = c .before .before .before .before .before .before .before .before .before .before .before in
+    let d = c .before .before .before in
     ⊎-elim
     (λ w. ap (placed (d .args .number)) (w .1) ∙ done (Given d) (d .args .number) (c .before .areas .area) (w .0 .taken) (c .before .areas .inv))
     (λ w. ap (placed (d .args .number)) (w .7) ∙ fault (Given d) (d .args .number) (c .before .areas .area) _ (w .2 .i) (w .3 .taken) (w .5 .ensures) (w .6 .taken) (w .2 .inv .1))
@@ -70,7 +68,7 @@ places-requires c κs = search needs
 
 loop-holds : tie.Need-loop-holds Inv-loop μ-loop Inv-areas μ-areas
 loop-holds c =
-    let d = c .before .before .before .before .before .before .before .before .before .before .before .before in (
+    let d = c .before .before .before .before in (
       handed-none (Given d) (d .args .number) (c .before .before .areas .area),
       enter (Given d) (d .args .number) (c .before .before .areas .area) _ (c .before .if1 .left) (there c) (c .before .before .areas .inv),
     )
@@ -80,8 +78,8 @@ carry-requires c κs = (sizes (c .before .before .before .before .before), c .be
 
 fine-requires : tie.Need-fine-requires Inv-loop μ-loop Inv-areas μ-areas
 fine-requires c κs =
-    let d = c .before .before .before .before .before .before .before .before .before .before .before .before .before .before .before in
-    (d .pre .0, (d .pre .1, (sizes (c .before .before .before .before .before .before), (c .carry .ensures, (c .before .before .before .before .if1 .left, subst (λ n. c .before .before .loop .i < n) (there (c .before .before .before)) (c .before .loop-test .taken))))))
+    let d = c .before .before .before .before .before .before .before in
+    (d .pre .0, ((d .pre .1, sizes (c .before .before .before .before .before .before)), (c .carry .ensures, (c .before .before .before .before .if1 .left, subst (λ n. c .before .before .loop .i < n) (there (c .before .before .before)) (c .before .loop-test .taken)))))
 
 add-i : tie.Need-add-i Inv-loop μ-loop Inv-areas μ-areas
 add-i c = omega arith
@@ -91,7 +89,7 @@ loop-less c = omega arith
 
 loop-again : tie.Need-loop-again Inv-loop μ-loop Inv-areas μ-areas
 loop-again c =
-    let d = c .before .before .before .before .before .before .before .before .before .before .before .before .before .before .before .before .before in (
+    let d = c .before .before .before .before .before .before .before .before .before in (
       handed-on (Given d) (d .args .number) (c .before .before .before .before .before .before .before .areas .area) (c .before .before .before .before .loop .i) (c .before .before .carry .ensures),
       next (Given d) (d .args .number) (c .before .before .before .before .before .before .before .areas .area) _ (c .before .before .before .before .loop .i) (c .before .before .before .loop-test .taken) (c .before .fine .ensures) (c .if2 .left) (c .before .before .before .before .loop .inv .1),
     )
@@ -104,7 +102,7 @@ areas-less c = omega arith
 
 areas-again : tie.Need-areas-again Inv-loop μ-loop Inv-areas μ-areas
 areas-again c =
-    let d = c .before .before .before .before .before .before .before .before .before .before .before .before .before .before in
+    let d = c .before .before .before .before .before .before in
     leave (Given d) (d .args .number) (c .before .before .before .before .areas .area) _ (c .before .loop .i) (c .loop-test .left) (c .before .loop .inv .1)
 
 enum-known-place : tie.Need-enum-known-place Inv-loop μ-loop Inv-areas μ-areas
@@ -114,10 +112,10 @@ enum-told : tie.Need-enum-told Inv-loop μ-loop Inv-areas μ-areas
 enum-told c = search needs
 
 returns : tie.Need-returns Inv-loop μ-loop Inv-areas μ-areas
-returns c = ap (placed (c .before .before .before .before .before .before .before .before .before .before .before .before .before .before .args .number)) (sym (c .before .place .given .1)) ∙ answer (c .before .before .before)
+returns c = ap (placed (c .before .before .before .before .before .before .args .number)) (sym (c .before .place .given .1)) ∙ answer (c .before .before .before)
 
 returns-2 : tie.Need-returns-2 Inv-loop μ-loop Inv-areas μ-areas
-returns-2 c = ap (placed (c .before .before .before .before .before .before .before .before .before .before .before .before .before .args .number)) (sym (c .enum-told .given .1)) ∙ answer (c .before .before)
+returns-2 c = ap (placed (c .before .before .before .before .before .args .number)) (sym (c .enum-told .given .1)) ∙ answer (c .before .before)
 
 pub first-spec : {M : Type 1} → statement M
 first-spec =

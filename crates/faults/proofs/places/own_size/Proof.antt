@@ -2,7 +2,7 @@
 -- Assumes nothing.
 use mathlib.Core.Path.{ap, _∙_}
 use borrow.Author.Needs.{needs}
-use Rattle.rules.specs.Rules.{sizeIn}
+use Rattle.arena.specs.Sizes.{sizeIn}
 use Rattle.faults.proofs.places.own_size.Statement.{statement}
 use Rattle.faults.proofs.places.own_size.Tie as tie
 

@@ -8,7 +8,8 @@ use native.Mathlib.Omega.{arith}
 use lib.ListN.{getD}
 use borrow.Author.Needs.{needs}
 use Rattle.definitions.specs.Areas.{Areas}
-use Rattle.tandem.specs.Deps.{sizing, depBefore, Block, Held}
+use Rattle.arena.specs.Lent.{areasIn}
+use Rattle.tandem.specs.Deps.{depBefore, Block, Held}
 use Rattle.tandem.proofs.deps.dep_before.Statement.{statement}
 use Rattle.tandem.proofs.deps.dep_before.Tie as tie
 
@@ -43,9 +44,9 @@ element-copy-out-result c = search needs
 
 returns-2 : tie.Need-returns-2
 returns-2 c =
-    let o = c .before .before .before .before .before .before in
+    let o = c .before .before .before .before in
     let a = o .args in
-    let s = sizing (a .types .now) (a .overrides .now) in
+    let s = areasIn (a .m .now) in
     let k = (a .t - 1) / 256 in
     let l : k < 16777216 = omega arith in
     let b : (c .before .if2 .held ≡ k) × Block s k (c .before .if2 .block) =

@@ -6,19 +6,20 @@ use Prim.Native.Nat.{_≤_, _+_, _*_, _-_}
 use native.Mathlib.Nat.{add-assoc}
 use native.Mathlib.Omega.{arith}
 use borrow.Author.Needs.{needs}
-use Rattle.tandem.specs.Deps.{sizing, depBefore}
+use Rattle.arena.specs.Lent.{areasIn}
+use Rattle.tandem.specs.Deps.{depBefore}
 use Rattle.tandem.proofs.Filling.{dep-more, Filled, none-filled, filled-more, all-filled}
 use Rattle.tandem.proofs.deps.fill_block.Statement.{statement}
 use Rattle.tandem.proofs.deps.fill_block.Tie as tie
 
 abbrev Inv-loop : tie.InvT-loop
-Inv-loop types overrides n starts k block₀ deep₀ j₀ block deep j =
+Inv-loop n starts k block₀ m deep₀ j₀ block deep j =
     (j ≤ 256)
-    × (deep ≡ depBefore (sizing types overrides) (k * 256 + j))
-    × Filled (λ i. depBefore (sizing types overrides) (k * 256 + (i + 1))) j block
+    × (deep ≡ depBefore (areasIn m) (k * 256 + j))
+    × Filled (λ i. depBefore (areasIn m) (k * 256 + (i + 1))) j block
 
 abbrev μ-loop : tie.MeasureT-loop
-μ-loop types overrides n starts k block₀ deep₀ j₀ block deep j = 256 - j
+μ-loop n starts k block₀ m deep₀ j₀ block deep j = 256 - j
 
 mul-deep : tie.Need-mul-deep Inv-loop μ-loop
 mul-deep c = search needs
@@ -35,9 +36,9 @@ deepest-requires c κs = (search needs, refl)
 
 loop-holds : tie.Need-loop-holds Inv-loop μ-loop
 loop-holds c =
-    let a = c .before .before .before .args in
-    let p = c .before .before .before .pre in
-    let s = sizing (a .types .now) (a .overrides .now) in
+    let a = c .before .args in
+    let p = c .before .pre in
+    let s = areasIn (a .m .now) in
     let d : c .if1 .deep ≡ depBefore s (a .k * 256) =
     ⊎-elim (λ w. w .2 ∙ p .0 .entry (a .k) (w .0 .taken, p .1)) (λ w. w .2 ∙ w .1 .ensures) (c .if1 .came) in
     let z : a .k * 256 ≡ a .k * 256 + 0 = omega arith in
@@ -72,8 +73,8 @@ loop-less c = search needs
 
 loop-again : tie.Need-loop-again Inv-loop μ-loop
 loop-again c =
-    let a = c .before .before .before .before .before .before .before .args in
-    let s = sizing (a .types .now) (a .overrides .now) in
+    let a = c .before .before .before .before .before .args in
+    let s = areasIn (a .m .now) in
     let l = c .before .before .before .loop in
     let e =
     dep-more s (a .k * 256 + l .j) (l .inv .1) (c .before .sized .ensures) (c .larger .ensures)

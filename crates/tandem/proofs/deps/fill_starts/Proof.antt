@@ -5,23 +5,24 @@ use Prim.Native.Nat.{_≤_, _*_, _-_}
 use native.Mathlib.Omega.{arith}
 use borrow.Author.Needs.{needs}
 use borrow.Author.Tests.{ltb-false}
-use Rattle.tandem.specs.Deps.{sizing, depBefore}
+use Rattle.arena.specs.Lent.{areasIn}
+use Rattle.tandem.specs.Deps.{depBefore}
 use Rattle.tandem.proofs.Filling.{Filled, none-filled, filled-more, all-filled}
 use Rattle.tandem.proofs.deps.fill_starts.Statement.{statement}
 use Rattle.tandem.proofs.deps.fill_starts.Tie as tie
 
 abbrev Inv-loop : tie.InvT-loop
-Inv-loop types overrides n starts₀ deep₀ k₀ starts deep k =
+Inv-loop n starts₀ m deep₀ k₀ starts deep k =
     (k ≤ 256)
-    × (deep ≡ depBefore (sizing types overrides) (k * 256))
-    × Filled (λ j. depBefore (sizing types overrides) (j * 256)) k starts
+    × (deep ≡ depBefore (areasIn m) (k * 256))
+    × Filled (λ j. depBefore (areasIn m) (j * 256)) k starts
 
 abbrev μ-loop : tie.MeasureT-loop
-μ-loop types overrides n starts₀ deep₀ k₀ starts deep k = 256 - k
+μ-loop n starts₀ m deep₀ k₀ starts deep k = 256 - k
 
 loop-holds : tie.Need-loop-holds Inv-loop μ-loop
 unfolding depBefore
-loop-holds c = (search needs, refl, none-filled _ _ (c .before .before .pre))
+loop-holds c = (search needs, refl, none-filled _ _ (c .pre))
 
 mul-if1 : tie.Need-mul-if1 Inv-loop μ-loop
 mul-if1 c = search needs
@@ -55,8 +56,8 @@ loop-less c = search needs
 
 loop-again : tie.Need-loop-again Inv-loop μ-loop
 loop-again c =
-    let a = c .before .before .before .before .before .before .args in
-    let s = sizing (a .types .now) (a .overrides .now) in
+    let a = c .before .before .before .before .args in
+    let s = areasIn (a .m .now) in
     let l = c .before .before .before .loop in
     (search needs, c .deepest .ensures, filled-more (λ j. depBefore s (j * 256)) (l .k) _ _ (c .before .before .loop-test .taken) (l .inv .1) (l .inv .2))
 

@@ -6,8 +6,9 @@ use mathlib.Core.List.{[], _∷_}
 use Prim.Native.Nat.{ℕ, _/_, _%_}
 use lib.Dec.{eqb}
 use borrow.Author.Tests.{eq-eqb, ne-eqb}
-use Rattle.definitions.specs.Areas.{Areas, areasOf, types, constants, overrides, numbered, words, word, wordOf}
+use Rattle.definitions.specs.Areas.{Areas, types, constants, overrides, numbered, word}
 use Rattle.definitions.specs.Roots.{isNamed, isAbstract, rootConstant, namedOverride}
+use Rattle.arena.specs.Lent.{areasIn}
 use Rattle.slots.proofs.Decision.{at-keys, NoneOf}
 use Rattle.slots.proofs.Numbered.{firstFour, past-three}
 use Rattle.trace.specs.Bits.{rootIn}
@@ -20,23 +21,23 @@ module _ (s : Areas) (i : ℕ) where
   abbrev Is : Bool → ℕ → Type 0
   Is r area = r ≡ rootIn s (numbered area) i
 
-  of-type : {w : ℕ} → w ≡ wordOf (s .types) types i 1 → Is (eqb (w % 2) 1) 0
-  unfolding rootIn numbered isNamed word words
+  of-type : {w : ℕ} → w ≡ word s types i 1 → Is (eqb (w % 2) 1) 0
+  unfolding rootIn numbered isNamed
   of-type e = ap (λ w. eqb (w % 2) 1) e
 
-  unnamed : {n : ℕ} → n ≡ wordOf (s .constants) constants i 0 → (n ≡ 1 → ⊥) → Is false 1
-  unfolding rootIn numbered rootConstant word words
-  unnamed e q = sym (ap (λ t. t && not (isAbstract s (wordOf (s .constants) constants i 1))) (ne-eqb _ 1 (λ z. q (e ∙ z))))
+  unnamed : {n : ℕ} → n ≡ word s constants i 0 → (n ≡ 1 → ⊥) → Is false 1
+  unfolding rootIn numbered rootConstant
+  unnamed e q = sym (ap (λ t. t && not (isAbstract s (word s constants i 1))) (ne-eqb _ 1 (λ z. q (e ∙ z))))
 
-  named : {n t w : ℕ} → n ≡ wordOf (s .constants) constants i 0 → n ≡ 1 → t ≡ wordOf (s .constants) constants i 1 → w ≡ wordOf (s .types) types t 1
+  named : {n t w : ℕ} → n ≡ word s constants i 0 → n ≡ 1 → t ≡ word s constants i 1 → w ≡ word s types t 1
       → Is (not (eqb (w / 2) 1)) 1
-  unfolding rootIn numbered rootConstant isAbstract word words
+  unfolding rootIn numbered rootConstant isAbstract
   named e q x y =
-      ap (λ w. not (eqb (w / 2) 1)) (y ∙ ap (λ t. wordOf (s .types) types t 1) x)
-      ∙ sym (ap (λ t. t && not (isAbstract s (wordOf (s .constants) constants i 1))) (eq-eqb _ 1 (sym e ∙ q)))
+      ap (λ w. not (eqb (w / 2) 1)) (y ∙ ap (λ t. word s types t 1) x)
+      ∙ sym (ap (λ t. t && not (isAbstract s (word s constants i 1))) (eq-eqb _ 1 (sym e ∙ q)))
 
-  of-override : {n : ℕ} → n ≡ wordOf (s .overrides) overrides i 0 → Is (eqb n 1) 2
-  unfolding rootIn numbered namedOverride word words
+  of-override : {n : ℕ} → n ≡ word s overrides i 0 → Is (eqb n 1) 2
+  unfolding rootIn numbered namedOverride
   of-override e = ap (λ n. eqb n 1) e
 
   of-global : Is true 3
@@ -55,8 +56,8 @@ named-requires c κs = search needs
 
 returns : tie.Need-returns
 returns c =
-    let a = c .before .before .before .before .before .before .before .before .before .before .before .args in
-    let s = areasOf (a .types .now) (a .constants .now) (a .overrides .now) (a .globals .now) (a .expressions .now) (a .members .now) (a .components .now) (a .mentions .now) in
+    let a = c .before .before .before .args in
+    let s = areasIn (a .m .now) in
     at-keys (Is s (a .i) false) (1 ∷ []) (unnamed s (a .i) (c .before .named .ensures) (c .if1 .taken), tt) _ (c .before .before .match .keys2)
 
 ty-requires : tie.Need-ty-requires
@@ -70,33 +71,33 @@ named-requires-2 c κs = search needs
 
 returns-2 : tie.Need-returns-2
 returns-2 c =
-    let a = c .before .before .before .before .before .before .before .before .before .before .args in
-    let s = areasOf (a .types .now) (a .constants .now) (a .overrides .now) (a .globals .now) (a .expressions .now) (a .members .now) (a .components .now) (a .mentions .now) in
+    let a = c .before .before .args in
+    let s = areasIn (a .m .now) in
     at-keys (Is s (a .i) _) (0 ∷ []) (of-type s (a .i) (c .flags .ensures), tt) _ (c .before .match .keys1)
 
 returns-3 : tie.Need-returns-3
 returns-3 c =
-    let a = c .before .before .before .before .before .before .before .before .before .before .before .before .before .args in
-    let s = areasOf (a .types .now) (a .constants .now) (a .overrides .now) (a .globals .now) (a .expressions .now) (a .members .now) (a .components .now) (a .mentions .now) in
+    let a = c .before .before .before .before .before .args in
+    let s = areasIn (a .m .now) in
     at-keys (Is s (a .i) _) (1 ∷ [])
     (named s (a .i) (c .before .before .before .named .ensures) (c .before .before .if1 .left) (c .before .ty .ensures) (c .flags2 .ensures), tt) _ (c .before .before .before .before .match .keys2)
 
 returns-4 : tie.Need-returns-4
 returns-4 c =
-    let a = c .before .before .before .before .before .before .before .before .before .before .args in
-    let s = areasOf (a .types .now) (a .constants .now) (a .overrides .now) (a .globals .now) (a .expressions .now) (a .members .now) (a .components .now) (a .mentions .now) in
+    let a = c .before .before .args in
+    let s = areasIn (a .m .now) in
     at-keys (Is s (a .i) _) (2 ∷ []) (of-override s (a .i) (c .named2 .ensures), tt) _ (c .before .match .keys3)
 
 returns-5 : tie.Need-returns-5
 returns-5 c =
-    let a = c .before .before .before .before .before .before .before .before .before .args in
-    let s = areasOf (a .types .now) (a .constants .now) (a .overrides .now) (a .globals .now) (a .expressions .now) (a .members .now) (a .components .now) (a .mentions .now) in
+    let a = c .before .args in
+    let s = areasIn (a .m .now) in
     at-keys (Is s (a .i) true) (3 ∷ []) (of-global s (a .i), tt) _ (c .match .keys4)
 
 returns-6 : tie.Need-returns-6
 returns-6 c =
-    let a = c .before .before .before .before .before .before .before .before .before .args in
-    let s = areasOf (a .types .now) (a .constants .now) (a .overrides .now) (a .globals .now) (a .expressions .now) (a .members .now) (a .components .now) (a .mentions .now) in
+    let a = c .before .args in
+    let s = areasIn (a .m .now) in
     of-expression s (a .i) (a .area) (c .match .rest)
 
 pub is-root-spec : {M : Type 1} → statement M

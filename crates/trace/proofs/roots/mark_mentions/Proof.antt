@@ -2,15 +2,15 @@
 -- Assumes nothing.
 use mathlib.Core.Path.{_≡_, sym, ap, ap₂, _∙_}
 use mathlib.Core.List.{List, [], _∷_, map}
-use Prim.Native.Nat.{ℕ, _+_, _-_, _*_, _≤_, _<_}
+use Prim.Native.Nat.{ℕ, _+_, _-_, _≤_, _<_}
 use native.Mathlib.Nat.{sub-zero}
-use lib.ListN.{getD}
 use Rattle.definitions.specs.Lists.{countUp}
-use Rattle.definitions.specs.Areas.{Areas, Arena, Elem, areasOf, at, numbered, mentionWidth, mentionWord}
+use Rattle.definitions.specs.Areas.{Areas, Arena, Elem, at, numbered, mentionWord}
 use Rattle.definitions.specs.Roots.{mention}
+use Rattle.arena.specs.Lent.{areasIn}
 use Rattle.trace.specs.Bits.{bitsOf}
 use Rattle.trace.proofs.Sets.{Left}
-use Rattle.trace.proofs.Behind.{marked-part, marked-as, marked-turn, marked-done}
+use Rattle.trace.proofs.Behind.{marked-as, marked-turn, marked-done}
 use Rattle.trace.proofs.Counting.{count-turn, count-done}
 use borrow.Author.Needs.{needs}
 use Rattle.trace.proofs.roots.mark_mentions.Statement.{statement}
@@ -21,9 +21,9 @@ abbrev from : Areas → ℕ → ℕ → List Elem
 from s n i = map (mention s) (countUp i (n - i))
 
 module _ (s : Areas) (n i : ℕ) where
-  turn : {x : Elem} {g : Arena} {area h : ℕ} → i < n → x ≡ at g h → g ≡ numbered area → area ≡ getD (s .mentions) (i * mentionWidth + 0) 0
-      → h ≡ getD (s .mentions) (i * mentionWidth + 1) 0 → from s n i ≡ x ∷ from s n (i + 1)
-  unfolding mention mentionWord
+  turn : {x : Elem} {g : Arena} {area h : ℕ} → i < n → x ≡ at g h → g ≡ numbered area → area ≡ mentionWord s i 0
+      → h ≡ mentionWord s i 1 → from s n i ≡ x ∷ from s n (i + 1)
+  unfolding mention
   turn l x g p q =
       ap (map (mention s)) (count-turn i n l) ∙ ap (λ y. y ∷ from s n (i + 1)) (sym (x ∙ ap₂ at (g ∙ ap numbered p) q))
 
@@ -31,12 +31,12 @@ module _ (s : Areas) (n i : ℕ) where
   done l = ap (map (mention s)) (count-done i n l)
 
 abbrev Inv-loop : tie.InvT-loop
-Inv-loop marks₀ b n types constants overrides globals expressions members components mentions i₀ marks i =
-    let s = areasOf types constants overrides globals expressions members components mentions in
+Inv-loop marks₀ b n m i₀ marks i =
+    let s = areasIn m in
     (i ≤ n) × Left (bitsOf s b (from s n 0)) marks₀ (bitsOf s b (from s n i)) marks
 
 abbrev μ-loop : tie.MeasureT-loop
-μ-loop marks₀ b n types constants overrides globals expressions members components mentions i₀ marks i = n - i
+μ-loop marks₀ b n m i₀ marks i = n - i
 
 loop-holds : tie.Need-loop-holds Inv-loop μ-loop
 loop-holds c = (search needs, λ u p. p)
@@ -64,18 +64,18 @@ loop-less c = search needs
 
 loop-again : tie.Need-loop-again Inv-loop μ-loop
 loop-again c =
-    let a = c .before .before .before .before .before .before .before .before .before .before .before .before .before .before .before .before .before .before .before .args in
-    let s = areasOf (a .types .now) (a .constants .now) (a .overrides .now) (a .globals .now) (a .expressions .now) (a .members .now) (a .components .now) (a .mentions .now) in
+    let a = c .before .before .before .before .before .before .before .before .before .before .before .args in
+    let s = areasIn (a .m .now) in
     let l = c .before .before .before .before .before .before .before .before .before .loop in
-    let x = turn s (a .n) (l .i) (c .before .before .before .before .before .before .before .before .loop-test .taken) (c .before .before .before .element .ensures) (c .before .before .before .before .before .arena-at .ensures) (c .before .before .before .before .before .before .before .area .ensures) (c .before .before .before .before .handle .ensures) in (
+    let x = turn s (a .n) (l .i) (c .before .before .before .before .before .before .before .before .loop-test .taken) (c .before .before .before .element .ensures) (c .before .before .before .before .arena-at .ensures) (c .before .before .before .before .before .before .before .area .ensures) (c .before .before .before .before .before .before .handle .ensures) in (
       search needs,
-      marked-turn s (a .b) _ (from s (a .n) (l .i)) (_ ∷ []) (from s (a .n) (l .i + 1)) x (marked-part s (a .b) _ (c .before .before .mark .ensures)) (l .inv .1),
+      marked-turn s (a .b) _ (from s (a .n) (l .i)) (_ ∷ []) (from s (a .n) (l .i + 1)) x (c .before .before .mark .ensures) (l .inv .1),
     )
 
 returns : tie.Need-returns Inv-loop μ-loop
 returns c =
-    let a = c .before .before .before .before .before .before .before .before .before .before .before .args in
-    let s = areasOf (a .types .now) (a .constants .now) (a .overrides .now) (a .globals .now) (a .expressions .now) (a .members .now) (a .components .now) (a .mentions .now) in
+    let a = c .before .before .before .args in
+    let s = areasIn (a .m .now) in
     let l = c .before .loop in
     marked-as s (a .b) (ap (λ m. map (mention s) (countUp 0 m)) (sym (sub-zero (a .n))))
     (marked-done s (a .b) _ _ (done s (a .n) (l .i) (c .loop-test .left)) (l .inv .1))
@@ -91,8 +91,8 @@ mark-mentions-spec =
     μ-loop
     loop-holds
     area-requires
-    arena-at-requires
     handle-requires
+    arena-at-requires
     element-requires
     mark-requires
     add-i

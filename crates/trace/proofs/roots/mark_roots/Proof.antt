@@ -5,8 +5,9 @@ use mathlib.Core.Bool.{Bool, true, false}
 use mathlib.Core.List.{List, [], map}
 use Prim.Native.Nat.{ℕ}
 use Rattle.definitions.specs.Lists.{countUp}
-use Rattle.definitions.specs.Areas.{Areas, areasOf, types, constants, overrides, globals, numbered}
+use Rattle.definitions.specs.Areas.{Areas, types, constants, overrides, globals, numbered}
 use Rattle.definitions.specs.Roots.{mention}
+use Rattle.arena.specs.Lent.{areasIn}
 use Rattle.arena.specs.declared.handle_set.Bases.{Bases}
 use Rattle.arena.specs.declared.sizes.Sizes.{Sizes}
 use Rattle.trace.specs.Bits.{Marked, thoseIn, rootsIn}
@@ -50,8 +51,8 @@ same-length c = search needs
 returns : tie.Need-returns
 unfolding numbered
 returns c =
-    let a = c .before .before .before .before .before .before .before .before .before .before .before .before .before .before .before .before .before .before .before .before .before .before .before .before .before .before .before .before .before .before .args in
-    let s = areasOf (a .types .now) (a .constants .now) (a .overrides .now) (a .globals .now) (a .expressions .now) (a .members .now) (a .components .now) (a .mentions .now) in
+    let a = c .before .before .before .before .before .before .before .before .before .before .before .before .before .before .before .before .before .before .before .before .before .before .args in
+    let s = areasIn (a .m .now) in
     let d = c .before .before .before .before .before .before .before .before .before .before .before .before in
     with-yes s (a .b) (a .n) (d .before .before .before .before .before .before .before .mark-mentions .ensures) (d .before .before .before .mark-those .ensures) (d .if1 .taken) (c .before .before .before .before .before .before .before .before .before .before .mark-those2 .ensures)
     (c .before .before .before .before .before .before .mark-those3 .ensures) (c .before .before .mark-those4 .ensures)
@@ -62,8 +63,8 @@ same-length-2 c = search needs
 returns-2 : tie.Need-returns-2
 unfolding numbered
 returns-2 c =
-    let a = c .before .before .before .before .before .before .before .before .before .before .before .before .before .before .before .before .before .before .args in
-    let s = areasOf (a .types .now) (a .constants .now) (a .overrides .now) (a .globals .now) (a .expressions .now) (a .members .now) (a .components .now) (a .mentions .now) in
+    let a = c .before .before .before .before .before .before .before .before .before .before .args in
+    let s = areasIn (a .m .now) in
     with-no s (a .b) (a .n) (c .before .before .before .before .before .before .before .mark-mentions .ensures) (c .before .before .before .mark-those .ensures) (c .if1 .left)
 
 pub mark-roots-spec : {M : Type 1} → statement M

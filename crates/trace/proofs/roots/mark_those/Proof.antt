@@ -7,12 +7,12 @@ use mathlib.Core.List.{List, [], _∷_, map}
 use Prim.Native.Nat.{ℕ, _+_, _-_, _≤_, _<_}
 use native.Mathlib.Nat.{sub-zero}
 use Rattle.definitions.specs.Lists.{countUp, select}
-use Rattle.definitions.specs.Areas.{Areas, Arena, Elem, areasOf, at, numbered}
+use Rattle.definitions.specs.Areas.{Areas, Arena, Elem, at, numbered}
 use Rattle.arena.specs.declared.handle_set.Bases.{Bases}
-use Rattle.slots.specs.Part.{part}
+use Rattle.arena.specs.Lent.{areasIn}
 use Rattle.trace.specs.Bits.{bitsOf, Marked, rootIn, thoseIn}
 use Rattle.trace.proofs.Sets.{Left}
-use Rattle.trace.proofs.Behind.{marked-part, marked-as, marked-none, marked-turn, marked-done}
+use Rattle.trace.proofs.Behind.{marked-as, marked-none, marked-turn, marked-done}
 use Rattle.trace.proofs.Counting.{count-turn, count-done}
 use borrow.Author.Needs.{needs}
 use Rattle.trace.proofs.roots.mark_those.Statement.{statement}
@@ -36,12 +36,12 @@ module _ (s : Areas) (a : Arena) (n i : ℕ) where
   done l = ap (λ r. map (at a) (select (rootIn s a) r)) (count-done i n l)
 
   module _ (b : Bases) (all : List ℕ) {v w : List ℕ} {t : Bool} (l : i < n) (e : t ≡ rootIn s a i) (left : Left all v (bitsOf s b (from s a n i)) w) where
-    marked : {x : Elem} {u y : List ℕ} → t ≡ true → x ≡ at a i → Marked (part (s .constants) (s .overrides) (s .globals)) b (x ∷ []) w u → y ≡ u
+    marked : {x : Elem} {u y : List ℕ} → t ≡ true → x ≡ at a i → Marked s b (x ∷ []) w u → y ≡ u
         → Left all v (bitsOf s b (from s a n (i + 1))) y
     marked {x} q p m z =
         subst (Left all v (bitsOf s b (from s a n (i + 1)))) (sym z)
         (marked-turn s b all (from s a n i) (x ∷ []) (from s a n (i + 1)) (turn true l (sym e ∙ q) ∙ ap (λ y. y ∷ from s a n (i + 1)) (sym p))
-        (marked-part s b (x ∷ []) m) left)
+        m left)
 
     passed : {y : List ℕ} → t ≡ false → y ≡ w → Left all v (bitsOf s b (from s a n (i + 1))) y
     passed q z =
@@ -49,12 +49,12 @@ module _ (s : Areas) (a : Arena) (n i : ℕ) where
         (marked-turn s b all (from s a n i) [] (from s a n (i + 1)) (turn false l (sym e ∙ q)) (marked-none s b w) left)
 
 abbrev Inv-loop : tie.InvT-loop
-Inv-loop marks₀ b area n types constants overrides globals expressions members components mentions i₀ marks i =
-    let s = areasOf types constants overrides globals expressions members components mentions in
+Inv-loop marks₀ b area n m i₀ marks i =
+    let s = areasIn m in
     (i ≤ n) × Left (bitsOf s b (from s (numbered area) n 0)) marks₀ (bitsOf s b (from s (numbered area) n i)) marks
 
 abbrev μ-loop : tie.MeasureT-loop
-μ-loop marks₀ b area n types constants overrides globals expressions members components mentions i₀ marks i = n - i
+μ-loop marks₀ b area n m i₀ marks i = n - i
 
 loop-holds : tie.Need-loop-holds Inv-loop μ-loop
 loop-holds c = (search needs, λ u p. p)
@@ -79,8 +79,8 @@ loop-less c = search needs
 
 loop-again : tie.Need-loop-again Inv-loop μ-loop
 loop-again c =
-    let a = c .before .before .before .before .before .before .before .before .before .before .before .before .before .args in
-    let s = areasOf (a .types .now) (a .constants .now) (a .overrides .now) (a .globals .now) (a .expressions .now) (a .members .now) (a .components .now) (a .mentions .now) in
+    let a = c .before .before .before .before .before .args in
+    let s = areasIn (a .m .now) in
     let l = c .before .before .before .loop in
     let g = numbered (a .area) in
     let all = bitsOf s (a .b) (from s g (a .n) 0) in
@@ -96,8 +96,8 @@ loop-again c =
 returns : tie.Need-returns Inv-loop μ-loop
 unfolding thoseIn
 returns c =
-    let a = c .before .before .before .before .before .before .before .before .before .before .before .args in
-    let s = areasOf (a .types .now) (a .constants .now) (a .overrides .now) (a .globals .now) (a .expressions .now) (a .members .now) (a .components .now) (a .mentions .now) in
+    let a = c .before .before .before .args in
+    let s = areasIn (a .m .now) in
     let l = c .before .loop in
     let g = numbered (a .area) in
     marked-as s (a .b) (ap (λ m. map (at g) (select (rootIn s g) (countUp 0 m))) (sym (sub-zero (a .n))))
