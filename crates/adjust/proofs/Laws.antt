@@ -6,11 +6,11 @@ use mathlib.Core.List.{List, [], _∷_, _++_, map, append-nil}
 use Prim.Native.Nat.{ℕ, zero, suc, _+_, _*_, _/_, _%_, _≤_, _<_, min}
 use native.Mathlib.Nat.{le-refl, le-trans, add-zero, mul-zero, div-one, div-add-mod', min-eq-left}
 use native.Mathlib.Omega.{arith}
-use lib.Dec.{T, eqb, eqb→eq, leb→le, lit<}
+use lib.Dec.{T, eqb, eqb→eq, lit<}
 use lib.ListN.{length, getD, take, drop, List·getD-append, drop-of-length-le}
 use borrow.Author.Tests.{ne-eqb, eqb-false}
 use Rattle.definitions.specs.Lists.{total, gather, always, all}
-use Rattle.definitions.specs.Areas.{Words, N, Arena, types, constants, overrides, globals, expressions, Areas, areasOf, Elem, at, numbered, words, size, word, pool, recordsOf, lengthOf, allWords, widths, limits, mentionCount, mentionWord}
+use Rattle.definitions.specs.Areas.{Words, N, Arena, types, constants, overrides, globals, expressions, Areas, areasOf, Elem, at, numbered, words, size, word, pool, recordsOf, lengthOf, allWords, widths, mentionCount, mentionWidth, mentionWord}
 use Rattle.definitions.specs.Slots.{Slot, unused, free, below, must, may, start, count, layout}
 use Rattle.definitions.specs.References.{hasRun, span, run}
 use Rattle.definitions.specs.Roots.{mention}
@@ -20,14 +20,14 @@ use Rattle.definitions.specs.Records.{startAfter, adjusted, adjustedFrom, recor
 use Rattle.definitions.specs.Outcome.{Maps, mapOf, mapsAfter}
 use Rattle.definitions.specs.MapEntries.{lookup}
 use Rattle.definitions.proofs.Least.{and-left, and-right, Within}
-use Rattle.definitions.proofs.Accepted.{Sound, size-few}
+use Rattle.definitions.proofs.Accepted.{Sound, area-few, size-few}
 use Rattle.definitions.proofs.Kept.{SlotHolds, EachSlot, Inside, inside-lt, slots-inside}
 use Rattle.definitions.proofs.ListLaws.{total-any, total-mono, total-cong, total-scale, length-gather, gather-word}
 use Rattle.definitions.proofs.Places.{rank-le}
 use Rattle.definitions.proofs.Counts.{map-length}
 use Rattle.definitions.proofs.Reading.{run-there}
 use Rattle.slots.proofs.Laws.{span-in}
-use Rattle.adjust.specs.Rewrite.{runsBy, keptBy, adjustedBy, recordFrom, spanOf, startBy, recordBy, arenaBy, runBy, poolBy, mentionBy, mentionsBy}
+use Rattle.adjust.specs.Rewrite.{runsBy, keptBy, adjustedBy, recordFrom, spanOf, startBy, recordBy, arenaBy, runBy, poolBy, mentionBy, mentionsBy, areasBy}
 
 -- what is the same at each number is the same in all
 gather-same : (p r : ℕ → Bool) (f g : ℕ → Words) (n : ℕ) → ((h : ℕ) → h < n → p h ≡ r h) → ((h : ℕ) → h < n → f h ≡ g h) → gather p f n ≡ gather r g n
@@ -89,8 +89,8 @@ module _ (s : Areas) (m : List Elem) (p : Maps) where
     unfolding word
     span-is a h = sym (span-in s a h)
 
-    -- the runs fill a pool of at most 16,384 words
-    runs-in : (a : Arena) → T (eqb (runsBefore s a (size s a)) (length (pool s a))) → length (pool s a) / 1 ≤ 16384 → runsBefore s a (size s a) < N
+    -- the runs fill a pool of few words
+    runs-in : (a : Arena) → T (eqb (runsBefore s a (size s a)) (length (pool s a))) → length (pool s a) / 1 < N → runsBefore s a (size s a) < N
     runs-in a t l = omega (arith, eqb→eq (runsBefore s a (size s a)) (length (pool s a)) t, div-one (length (pool s a)))
 
     no-runs : (a : Arena) → ((h : ℕ) → span s a h ≡ 0) → runsBefore s a (size s a) < N
@@ -98,12 +98,12 @@ module _ (s : Areas) (m : List Elem) (p : Maps) where
     no-runs a e = omega (arith, total-cong always (span s a) (λ _. 0) (size s a) (λ h l t. e h) ∙ total-scale always 0 (size s a) ∙ mul-zero _)
 
     runs-few : (a : Arena) → runsBefore s a (size s a) < N
-    unfolding recordsOf lengthOf widths limits allWords pool span hasRun
-    runs-few types = runs-in types (c .members-used) (leb→le _ _ (c .few 5 (lit< tt)))
+    unfolding recordsOf lengthOf widths allWords pool span hasRun
+    runs-few types = runs-in types (c .members-used) (area-few s (c .few) 5 (lit< tt))
     runs-few constants = no-runs constants (λ h. refl)
     runs-few overrides = no-runs overrides (λ h. refl)
     runs-few globals = no-runs globals (λ h. refl)
-    runs-few expressions = runs-in expressions (c .components-used) (leb→le _ _ (c .few 6 (lit< tt)))
+    runs-few expressions = runs-in expressions (c .components-used) (area-few s (c .few) 6 (lit< tt))
 
     -- so no start is cut off at N
     start-is : (a : Arena) (h : ℕ) → h ≤ size s a → startBy (mapOf maps a) a (words s a) h ≡ startAfter s m a h
@@ -153,8 +153,8 @@ module _ (s : Areas) (m : List Elem) (p : Maps) where
     pub mentions-after : mentionsBy maps (s .mentions) ≡ mentionsUpTo s m (mentionCount s)
     unfolding mentionsBy mentionsUpTo mentionCount lengthOf allWords widths
     mentions-after =
-        let n : length (s .mentions) % 2 ≡ 0 = eqb→eq (length (s .mentions) % 2) 0 (c .whole 7 (lit< tt)) in
-        let q : length (s .mentions) ≤ length (s .mentions) / 2 * 2 = omega (arith, div-add-mod' (length (s .mentions)) 2) in
+        let n : length (s .mentions) % mentionWidth ≡ 0 = eqb→eq (length (s .mentions) % mentionWidth) 0 (c .whole 7 (lit< tt)) in
+        let q : length (s .mentions) ≤ length (s .mentions) / mentionWidth * mentionWidth = omega (arith, div-add-mod' (length (s .mentions)) mentionWidth) in
         ap₂ _++_ (gather-same always always _ _ (mentionCount s) (λ h l. refl) mention-after) (drop-of-length-le (s .mentions) q) ∙ append-nil _
 
     -- ---- the arenas
@@ -192,17 +192,8 @@ module _ (s : Areas) (m : List Elem) (p : Maps) where
       arena-after a = ap (padded (words s a)) (gather-same _ _ _ _ (size s a) (kept-after a) (record-after a))
 
       -- so the three functions, each applied to the areas that it is for, leave the areas of document 01
-      pub areas-after : areasOf
-          (arenaBy maps types (s .types))
-          (arenaBy maps constants (s .constants))
-          (arenaBy maps overrides (s .overrides))
-          (arenaBy maps globals (s .globals))
-          (arenaBy maps expressions (s .expressions))
-          (poolBy (mapOf maps types) types (s .types) (s .members))
-          (poolBy (mapOf maps expressions) expressions (s .expressions) (s .components))
-          (mentionsBy maps (s .mentions))
-          ≡ areasAfter s m
-      unfolding words pool keptAreas areasAfter
+      pub areas-after : areasBy maps s ≡ areasAfter s m
+      unfolding words pool mapOf keptAreas areasAfter areasBy
       areas-after = λ i.
           areasOf (arena-after types i) (arena-after constants i) (arena-after overrides i) (arena-after globals i) (arena-after expressions i) (pool-after types i)
           (pool-after expressions i) (mentions-after i)

@@ -11,7 +11,7 @@ use lib.Dec.{T}
 use lib.ListN.{length, getD, take, drop, set, replicate, length-append, length-set, length-map, length-drop}
 use lib.Seq.{sets, getD-drop, getD-append-add, drop-cons, set-at, take-nil, drop-nil, length-take-le}
 use Rattle.definitions.specs.Lists.{total, gather, always}
-use Rattle.definitions.specs.Areas.{Words, N, Arena, numbered, width, wordOf}
+use Rattle.definitions.specs.Areas.{Words, N, Arena, numbered, width, wordOf, mentionWidth}
 use Rattle.definitions.specs.Slots.{Slot, slots}
 use Rattle.definitions.specs.Records.{padded}
 use Rattle.definitions.specs.Outcome.{Maps, mapOf}
@@ -192,14 +192,14 @@ module _ (p : Maps) (old : Words) where
   -- the mentions before `at` are adjusted, and the rest is as it was
   pub record Renaming (new : Words) (at : ℕ) : Type 0 where
     pub same : length new ≡ length old
-    pub even : at / 2 * 2 ≡ at
+    pub even : at / mentionWidth * mentionWidth ≡ at
     pub high : at ≤ length old
-    pub new-is : new ≡ gather always (mentionBy p old) (at / 2) ++ drop at old
+    pub new-is : new ≡ gather always (mentionBy p old) (at / mentionWidth) ++ drop at old
 
-  length-mentions : (h : ℕ) → length (gather always (mentionBy p old) h) ≡ h * 2
+  length-mentions : (h : ℕ) → length (gather always (mentionBy p old) h) ≡ h * mentionWidth
   unfolding gather mentionBy
   length-mentions zero = refl
-  length-mentions (suc h) = length-append (gather always (mentionBy p old) h) (mentionBy p old h) ∙ ap (λ n. n + 2) (length-mentions h) ∙ sym (suc-mul h 2)
+  length-mentions (suc h) = length-append (gather always (mentionBy p old) h) (mentionBy p old h) ∙ ap (λ n. n + mentionWidth) (length-mentions h) ∙ sym (suc-mul h mentionWidth)
 
   pub renaming : Renaming old 0
   unfolding gather
@@ -207,10 +207,10 @@ module _ (p : Maps) (old : Words) where
 
   module _ (new : Words) (at : ℕ) (l : 1 < length old - at) (r : Renaming new at) where
     abbrev first : Words
-    first = gather always (mentionBy p old) (at / 2)
+    first = gather always (mentionBy p old) (at / mentionWidth)
 
     length-first : length first ≡ at
-    length-first = length-mentions (at / 2) ∙ r .even
+    length-first = length-mentions (at / mentionWidth) ∙ r .even
 
     -- the mention that is read is the old one
     read : (k : ℕ) → getD new (at + k) 0 ≡ getD old (at + k) 0
@@ -218,27 +218,27 @@ module _ (p : Maps) (old : Words) where
         ap (λ d. getD d (at + k) 0) (r .new-is) ∙ ap (λ n. getD (first ++ drop at old) (n + k) 0) (sym length-first)
         ∙ getD-append-add first (drop at old) k 0 ∙ getD-drop at old k 0
 
-    two : drop at old ≡ getD old at 0 ∷ getD old (at + 1) 0 ∷ drop (at + 2) old
+    two : drop at old ≡ getD old at 0 ∷ getD old (at + 1) 0 ∷ drop (at + mentionWidth) old
     two =
-        let e : at + 2 ≡ suc (suc at) = omega arith in
+        let e : at + mentionWidth ≡ suc (suc at) = omega arith in
         drop-cons old at 0 (omega arith) ∙ ap (λ d. getD old at 0 ∷ d) (drop-cons old (suc at) 0 (omega arith)) ∙ rw (e, add-one at)
 
-    stored : (v : ℕ) → set new (at + 1) v ≡ first ++ getD old at 0 ∷ v ∷ drop (at + 2) old
+    stored : (v : ℕ) → set new (at + 1) v ≡ first ++ getD old at 0 ∷ v ∷ drop (at + mentionWidth) old
     stored v =
-        let e : new ≡ (first ++ (getD old at 0 ∷ [])) ++ getD old (at + 1) 0 ∷ drop (at + 2) old =
+        let e : new ≡ (first ++ (getD old at 0 ∷ [])) ++ getD old (at + 1) 0 ∷ drop (at + mentionWidth) old =
         r .new-is ∙ ap (λ d. first ++ d) two ∙ sym (append-assoc first (getD old at 0 ∷ []) _) in
         ap (λ d. set d (at + 1) v) e
         ∙ set-at (first ++ (getD old at 0 ∷ [])) _ _ v (at + 1) (length-append first (getD old at 0 ∷ []) ∙ ap (λ n. n + 1) length-first)
         ∙ append-assoc first (getD old at 0 ∷ []) _
 
-    mention-is : mentionBy p old (at / 2) ≡ getD old at 0 ∷ lookup (mapOf p (numbered (getD old at 0))) (getD old (at + 1) 0) ∷ []
+    mention-is : mentionBy p old (at / mentionWidth) ≡ getD old at 0 ∷ lookup (mapOf p (numbered (getD old at 0))) (getD old (at + 1) 0) ∷ []
     unfolding mentionBy
     mention-is = rw (r .even, add-zero at)
 
-    pub mention-renamed : (a : Arena) (v : ℕ) → a ≡ numbered (getD new (at + 0) 0) → v ≡ lookup (mapOf p a) (getD new (at + 1) 0) → Renaming (set new (at + 1) v) (at + 2)
+    pub mention-renamed : (a : Arena) (v : ℕ) → a ≡ numbered (getD new (at + 0) 0) → v ≡ lookup (mapOf p a) (getD new (at + 1) 0) → Renaming (set new (at + 1) v) (at + mentionWidth)
     unfolding gather
     mention-renamed a v its e =
-        let n : (at + 2) / 2 ≡ suc (at / 2) = omega arith in
+        let n : (at + mentionWidth) / mentionWidth ≡ suc (at / mentionWidth) = omega arith in
         let q : v ≡ lookup (mapOf p (numbered (getD old at 0))) (getD old (at + 1) 0) =
         e ∙ ap₂ (λ x h. lookup (mapOf p x) h) (its ∙ ap numbered (read 0 ∙ ap (λ i. getD old i 0) (add-zero at))) (read 1) in
         record {
@@ -246,12 +246,12 @@ module _ (p : Maps) (old : Words) where
           even = omega (arith, r .even);
           high = omega arith;
           new-is =
-              stored v ∙ ap (λ x. first ++ getD old at 0 ∷ x ∷ drop (at + 2) old) q ∙ ap (λ m. first ++ (m ++ drop (at + 2) old)) (sym mention-is)
-              ∙ sym (append-assoc first (mentionBy p old (at / 2)) (drop (at + 2) old)) ∙ ap (λ h. gather always (mentionBy p old) h ++ drop (at + 2) old) (sym n);
+              stored v ∙ ap (λ x. first ++ getD old at 0 ∷ x ∷ drop (at + mentionWidth) old) q ∙ ap (λ m. first ++ (m ++ drop (at + mentionWidth) old)) (sym mention-is)
+              ∙ sym (append-assoc first (mentionBy p old (at / mentionWidth)) (drop (at + mentionWidth) old)) ∙ ap (λ h. gather always (mentionBy p old) h ++ drop (at + mentionWidth) old) (sym n);
         }
 
   pub renamed : (new : Words) (at : ℕ) → length old - at ≤ 1 → Renaming new at → new ≡ mentionsBy p old
   unfolding mentionsBy
   renamed new at l r =
-      let n : at / 2 ≡ length old / 2 = omega (arith, r .even, r .high) in
-      r .new-is ∙ ap₂ (λ h k. gather always (mentionBy p old) h ++ drop k old) n (sym (r .even) ∙ ap (λ h. h * 2) n)
+      let n : at / mentionWidth ≡ length old / mentionWidth = omega (arith, r .even, r .high) in
+      r .new-is ∙ ap₂ (λ h k. gather always (mentionBy p old) h ++ drop k old) n (sym (r .even) ∙ ap (λ h. h * mentionWidth) n)

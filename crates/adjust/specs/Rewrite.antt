@@ -7,7 +7,8 @@ use Prim.Native.Nat.{ℕ, suc, _+_, _-_, _*_, _/_, _<_, min}
 use lib.ListN.{length, getD, take, drop, replicate}
 use lib.Dec.{eqb}
 use Rattle.definitions.specs.Lists.{total, gather, always}
-use Rattle.definitions.specs.Areas.{Words, N, Arena, Elem, at, numbered, width, wordOf, mentionWidth}
+use Rattle.definitions.specs.Areas.{Words, N, Areas, areasOf, Elem, at, numbered, width, wordOf, mentionWidth}
+use Rattle.definitions.specs.Areas.{Arena, types, constants, overrides, globals, expressions}
 use Rattle.definitions.specs.Slots.{Slot, unused, free, below, must, may, start, count, slots}
 use Rattle.definitions.specs.Records.{padded}
 use Rattle.definitions.specs.Outcome.{Maps, mapOf}
@@ -98,3 +99,16 @@ mentionBy p ws h = mentionAt ws h 0 ∷ lookup (mapOf p (numbered (mentionAt ws 
 unfoldable pub mentionsBy : Maps → Words → Words
 mentionsBy p ws =
     gather always (mentionBy p ws) (length ws / mentionWidth) ++ drop (length ws / mentionWidth * mentionWidth) ws
+
+-- all areas after: arenas, pools and mentions by the maps
+unfoldable pub areasBy : Maps → Areas → Areas
+areasBy p s =
+    areasOf
+    (arenaBy p types (s .types))
+    (arenaBy p constants (s .constants))
+    (arenaBy p overrides (s .overrides))
+    (arenaBy p globals (s .globals))
+    (arenaBy p expressions (s .expressions))
+    (poolBy (p .types) types (s .types) (s .members))
+    (poolBy (p .expressions) expressions (s .expressions) (s .components))
+    (mentionsBy p (s .mentions))

@@ -5,7 +5,7 @@ ghost use Prim.Native.Nat.{_+_, _≤_, _<_};
 ghost use lib.ListN.{length, getD, take, drop, set, replicate};
 ghost use lib.Seq.{sets};
 ghost use Rattle.definitions.specs.Areas.{N, numbered, width};
-ghost use Rattle.definitions.specs.Slots.{body, slots};
+ghost use Rattle.definitions.specs.Slots.{body, tail, slots};
 ghost use Rattle.definitions.specs.Outcome.{mapOf};
 ghost use Rattle.definitions.specs.MapEntries.{lookup};
 ghost use Rattle.arena.specs.Lent.{given, left, maps};
@@ -212,7 +212,7 @@ fn adjust_body<'a>(
     global_map: &'a [u32],
     expression_map: &'a [u32],
 )
-    requires { ⌜ (to ≤ from) × (from + n ≤ length (now ws)) × (n + 1 ≡ width (numbered area)) ⌝ }
+    requires { ⌜ (to ≤ from) × (from + n ≤ length (now ws)) × (n + length tail ≡ width (numbered area)) ⌝ }
     ensures { λ _. ⌜ left ws ≡
         sets (given ws) to
         (recordFrom (maps given «type_map» «constant_map» «override_map» «global_map» «expression_map») start

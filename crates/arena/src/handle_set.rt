@@ -6,9 +6,22 @@ ghost use Rattle.arena.specs.Elements.{elementOf};
 ghost use Rattle.arena.specs.HandleSet.{bases, bit, member, Inserted, Cleared};
 ghost use Rattle.arena.specs.Lent.{given, left};
 ghost use Rattle.arena.specs.Sizes.{sizeIn};
+use crate::Constant;
 use crate::Element;
+use crate::Expression;
+use crate::Global;
+use crate::Override;
 use crate::Sizes;
+use crate::Type;
 use crate::capped;
+
+// How many words hold a bit for every record that the limits allow.
+pub const MARKS: usize = (Type::LIMIT
+    + Constant::LIMIT
+    + Override::LIMIT
+    + Global::LIMIT
+    + Expression::LIMIT)
+    / 64;
 
 // Where the bits of each arena begin, those of types beginning at 0, and where the last arena's end.
 pub struct Bases {

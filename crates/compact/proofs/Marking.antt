@@ -3,15 +3,17 @@
 use mathlib.Core.Path.{_≡_, refl, sym, ap, subst, _∙_}
 use mathlib.Core.Bool.{Bool, false}
 use mathlib.Core.List.{List, []}
-use Prim.Native.Nat.{ℕ, zero, suc, _+_, _/_, _%_, _^_, _≤_, _<_}
+use Prim.Native.Nat.{ℕ, zero, suc, _+_, _*_, _/_, _%_, _^_, _≤_, _<_}
 use native.Mathlib.Nat.{zero-div, le-refl}
 use native.Mathlib.Omega.{arith}
-use lib.ListN.{length, getD, take, replicate}
-use lib.Dec.{leb→le, lit<}
-use Rattle.definitions.specs.Areas.{Areas, types, expressions, size, mentionCount, recordsOf, lengthOf, allWords, widths, limits}
+use lib.ListN.{length, getD, take, replicate, length-replicate}
+use lib.Dec.{lit<}
+use Rattle.definitions.specs.Areas.{N, Areas, types, expressions, size, mentionCount, recordsOf, lengthOf, allWords, widths, marksWords}
+use Rattle.definitions.specs.Roots.{roots}
 use Rattle.definitions.specs.Order.{visits}
 use Rattle.definitions.specs.Sweep.{kept}
-use Rattle.definitions.proofs.Accepted.{Sound, facts, size-few}
+use Rattle.definitions.proofs.Accepted.{Sound, facts, area-few, size-few, all-fit}
+use Rattle.definitions.proofs.Kept.{roots-inside}
 use Rattle.arena.specs.HandleSet.{bases, member}
 use Rattle.arena.specs.declared.handle_set.Bases.{Bases}
 use Rattle.arena.specs.Marks.{Marks}
@@ -21,9 +23,9 @@ use Rattle.arena.proofs.Counting.{sizes-exact}
 use Rattle.arena.proofs.Elements.{end-records}
 use Rattle.arena.proofs.Marks.{marks-none}
 use Rattle.trace.specs.Bits.{Marked, Swept, rootsIn}
-use Rattle.trace.proofs.Bridge.{roots-in, records-few, root-marks, kept-marks}
+use Rattle.trace.proofs.Bridge.{roots-in, records-few, records-small, root-marks, kept-marks}
 use Rattle.tandem.proofs.Laws.{whole-order}
-use Rattle.compact.specs.Answer.{Accepts, MarksKept}
+use Rattle.compact.specs.Stages.{Accepts, MarksKept}
 
 -- words of 0 hold nothing
 getD-zeros : (n i : ℕ) → _≡_ {A = ℕ} (getD (replicate n 0) i 0) 0
@@ -40,9 +42,9 @@ sound : (s : Areas) → Accepts s → Sound s
 sound s a = facts s (a .0) (a .1) .sound
 
 -- and how few mentions it has
-mentions-few : (s : Areas) → Sound s → mentionCount s ≤ 4096
-unfolding mentionCount recordsOf lengthOf allWords widths limits
-mentions-few s c = leb→le _ _ (c .few 7 (lit< tt))
+mentions-few : (s : Areas) → Sound s → mentionCount s < N
+unfolding mentionCount recordsOf lengthOf allWords widths
+mentions-few s c = area-few s (c .few) 7 (lit< tt)
 
 -- so that the counts are its sizes
 sizes-are : (s : Areas) → Accepts s → {z : Sizes} → z ≡ countedIn s → z ≡ sizesOf s
@@ -57,15 +59,15 @@ Stages s keep z b before between after =
     → Swept s b (take (z .types + z .expressions) (visits s (z .types) (z .expressions))) between after
     → Marks s after (kept s keep)
 
-stages : (s : Areas) → Sound s → (keep : Bool) {before between after : List ℕ} → before ≡ replicate 320 0
+stages : (s : Areas) → Sound s → (keep : Bool) {before between after : List ℕ} → before ≡ replicate marksWords 0
     → Stages s keep (sizesOf s) (bases (size s)) before between after
 stages s c keep {before} {between} {after} z r h =
-    let small : bases (size s) .end ≤ 20480 = omega (arith, records-few s c, end-records (size s) (omega (arith, records-few s c))) in
-    let wide : length before ≡ 320 = ap length z in
-    let same : length between ≡ 320 = r .as-long ∙ wide in
-    let empty : Marks s before [] = marks-none s before before (record { as-long = refl; none = λ j. ap (λ w. member w j) z ∙ zeros-hold 320 j }) in
-    let m = root-marks s c keep (omega arith) empty (subst (λ x. Marked s (bases (size s)) x before between) (roots-in s keep) r) in
-    kept-marks s c keep (omega arith) m
+    let small : bases (size s) .end ≤ 64 * marksWords = omega (arith, records-few s c, all-fit, end-records (size s) (records-small s c)) in
+    let wide : length before ≡ marksWords = ap length z ∙ length-replicate {A = ℕ} marksWords 0 in
+    let same : length between ≡ marksWords = r .as-long ∙ wide in
+    let empty : Marks s before [] = marks-none s before before (record { as-long = refl; none = λ j. ap (λ w. member w j) z ∙ zeros-hold marksWords j }) in
+    let m = root-marks s c (roots s keep) (omega arith) (roots-inside s c keep) empty (subst (λ x. Marked s (bases (size s)) x before between) (roots-in s keep) r) in
+    kept-marks s c (roots s keep) (omega arith) m
     (subst (λ o. Swept s (bases (size s)) o between after) (whole-order s (size s types + size s expressions) (le-refl _)) h)
 
 -- the bases made of the sizes
@@ -74,7 +76,7 @@ bases-due s ze be = be ∙ ap (λ y. bases (sizeIn y)) ze
 
 -- over emptied words, with what was counted and the bases made of it, they leave what is kept
 pub marking : (s : Areas) → Accepts s → (keep : Bool) (z : Sizes) (b : Bases) → z ≡ countedIn s → b ≡ bases (sizeIn z) → {before between after : List ℕ}
-    → before ≡ replicate 320 0 → Marked s b (rootsIn s keep z) before between
+    → before ≡ replicate marksWords 0 → Marked s b (rootsIn s keep z) before between
     → Swept s b (take (z .types + z .expressions) (visits s (z .types) (z .expressions))) between after → MarksKept s keep z after
 marking s a keep z b ce be {before} {between} {after} e m w =
     let ze = sizes-are s a ce in

@@ -4,27 +4,14 @@ use mathlib.Core.Path.{_≡_}
 use mathlib.Core.Bool.{Bool, true, false}
 use mathlib.Core.List.{List, [], _∷_}
 use Prim.Native.Nat.{ℕ}
-use lib.Dec.{T}
 use Rattle.definitions.specs.Areas.{Areas}
-use Rattle.definitions.specs.Sweep.{kept}
 use Rattle.definitions.specs.Refusals.{check, passes}
 use Rattle.definitions.specs.Outcome.{Maps, Outcome, lengths, outcome}
-use Rattle.arena.specs.Marks.{Marks}
-use Rattle.arena.specs.Sizes.{sizesOf}
-use Rattle.arena.specs.declared.sizes.Sizes.{Sizes}
 use Rattle.compact.specs.declared.KeepUnused.{KeepUnused}
 use Rattle.compact.specs.declared.KeepUnused.the-variants.{No, Yes}
 use Rattle.compact.specs.declared.Counts.{Counts}
 use Rattle.compact.specs.declared.Compacted.{Compacted}
 use Rattle.compact.specs.declared.Compacted.the-variants.{Kept, Refused}
-
--- the module is accepted, with some maps
-abbrev pub Accepts : Areas → Type 0
-Accepts s = (maps : List ℕ) × T (passes (check s maps))
-
--- the sizes are the module's, and the words stand for what is kept
-abbrev pub MarksKept : Areas → Bool → Sizes → List ℕ → Type 0
-MarksKept s keep z ws = (z ≡ sizesOf s) × Marks s ws (kept s keep)
 
 -- `KeepUnused::Yes` is true
 abbrev pub keepOf : KeepUnused → Bool

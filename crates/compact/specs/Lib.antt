@@ -1,2 +1,3 @@
--- What the contract of `compact` cites.
+-- What the contracts of `compact` and its stages cite.
 pub mod Answer
+pub mod Stages

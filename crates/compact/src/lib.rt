@@ -1,17 +1,14 @@
 // The entry: a flat shader module compacted in place, or refused with nothing changed.
-mod keep;
+mod judge;
+mod number;
+mod rewrite;
 
 ghost use mathlib.Core.Path.{_≡_};
 ghost use Rattle.arena.specs.Lent.{over};
 ghost use Rattle.compact.specs.Answer.{keepOf, Compacts};
-use arena::CONSTANTS;
-use arena::EXPRESSIONS;
-use arena::GLOBALS;
-use arena::OVERRIDES;
-use arena::TYPES;
-use arena::handle_set::Bases;
+use arena::handle_set::MARKS;
 pub use faults::Fault;
-use faults::Verdict;
+use judge::Judged;
 
 // Whether named overrides and types and all globals are kept though nothing refers to them.
 pub enum KeepUnused {
@@ -67,26 +64,8 @@ pub fn compact(
         types constants overrides globals expressions members components mentions
         «type_map» «constant_map» «override_map» «global_map» «expression_map» ⌝ }
 {
-    let v = faults::check(
-        types,
-        constants,
-        overrides,
-        globals,
-        expressions,
-        members,
-        components,
-        mentions,
-        type_map,
-        constant_map,
-        override_map,
-        global_map,
-        expression_map,
-    );
-    if let Verdict::Refused(f) = v {
-        return Compacted::Refused(f);
-    }
-    let mut marks = [0u64; 320];
-    let z = keep::mark(
+    let mut marks = [0u64; MARKS];
+    let judged = judge::judge(
         &mut marks,
         keeps(keep_unused),
         types,
@@ -97,79 +76,35 @@ pub fn compact(
         members,
         components,
         mentions,
-    );
-    let b = Bases::of(z);
-    let kept_types = handle_map::from_set(&marks, 0, z.types, type_map);
-    let kept_constants = handle_map::from_set(&marks, b.constants, z.constants, constant_map);
-    let kept_overrides = handle_map::from_set(&marks, b.overrides, z.overrides, override_map);
-    let kept_globals = handle_map::from_set(&marks, b.globals, z.globals, global_map);
-    let kept_expressions = handle_map::from_set(
-        &marks,
-        b.expressions,
-        z.expressions,
+        type_map,
+        constant_map,
+        override_map,
+        global_map,
         expression_map,
     );
-    // Where nothing is lost the areas stay as they are.
-    let whole = Counts {
-        types: kept_types,
-        constants: kept_constants,
-        overrides: kept_overrides,
-        globals: kept_globals,
-        expressions: kept_expressions,
-        members: members.len() as u32,
-        components: components.len() as u32,
+    let z = match judged {
+        Judged::Accepted(z) => z,
+        Judged::Refused(f) => return Compacted::Refused(f),
     };
-    if keep::all_kept(z, whole) {
-        return Compacted::Kept(whole);
-    }
-    let kept_members = adjust::adjust_pool(TYPES, types, members, type_map);
-    let kept_components = adjust::adjust_pool(EXPRESSIONS, expressions, components, expression_map);
-    adjust::adjust_arena(
-        TYPES,
+    let kept = number::number(
+        &marks,
+        z,
+        type_map,
+        constant_map,
+        override_map,
+        global_map,
+        expression_map,
+    );
+    let pools = rewrite::rewrite(
+        z,
+        kept,
         types,
-        type_map,
-        constant_map,
-        override_map,
-        global_map,
-        expression_map,
-    );
-    adjust::adjust_arena(
-        CONSTANTS,
         constants,
-        type_map,
-        constant_map,
-        override_map,
-        global_map,
-        expression_map,
-    );
-    adjust::adjust_arena(
-        OVERRIDES,
         overrides,
-        type_map,
-        constant_map,
-        override_map,
-        global_map,
-        expression_map,
-    );
-    adjust::adjust_arena(
-        GLOBALS,
         globals,
-        type_map,
-        constant_map,
-        override_map,
-        global_map,
-        expression_map,
-    );
-    adjust::adjust_arena(
-        EXPRESSIONS,
         expressions,
-        type_map,
-        constant_map,
-        override_map,
-        global_map,
-        expression_map,
-    );
-    adjust::adjust_mentions(
+        members,
+        components,
         mentions,
         type_map,
         constant_map,
@@ -178,12 +113,12 @@ pub fn compact(
         expression_map,
     );
     Compacted::Kept(Counts {
-        types: kept_types,
-        constants: kept_constants,
-        overrides: kept_overrides,
-        globals: kept_globals,
-        expressions: kept_expressions,
-        members: kept_members as u32,
-        components: kept_components as u32,
+        types: kept.types,
+        constants: kept.constants,
+        overrides: kept.overrides,
+        globals: kept.globals,
+        expressions: kept.expressions,
+        members: pools.members as u32,
+        components: pools.components as u32,
     })
 }

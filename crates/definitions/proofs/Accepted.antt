@@ -2,15 +2,19 @@
 -- Assumes nothing.
 use mathlib.Core.Path.{sym, subst, _∙_}
 use mathlib.Core.Bool.{Bool, true, false, cond}
-use mathlib.Core.List.{List, [], _∷_}
-use Prim.Native.Nat.{ℕ, zero, suc, _+_, _%_, _≤_, _<_, suc-le-suc}
+use mathlib.Core.List.{List, [], _∷_, map}
+use Prim.Native.Nat.{ℕ, zero, suc, _+_, _*_, _%_, _≤_, _<_, suc-le-suc}
 use native.Mathlib.Nat.{add-zero, zero-add, suc-add, add-suc, zero-lt-suc, le-trans, not-suc-le-zero, le-of-suc-le-suc}
-use lib.Dec.{T, eqb, ltb, leb, leb→le, lit<, lit≤}
+use lib.Dec.{T, eqb, ltb, leb, ltb→lt, leb→le, lit<, lit≤}
 use lib.ListN.{length, getD}
-use Rattle.definitions.specs.Areas.{Areas, Arena, N, allWords, at, constants, expressions, globals, lengthOf, recordsOf, limits, mentionCount, mentionWord, areaNumber, overrides, pool, size, types, width, widths, words}
+use Rattle.definitions.specs.Lists.{all}
+use Rattle.definitions.specs.Areas.{Areas, Arena, N, allWords, at, constants, expressions, globals, lengthOf, recordsOf, limit, limits, allRecords, marksWords, mentionCount, mentionWord, areaNumber, overrides, pool, size, types, widths, words}
 use Rattle.definitions.specs.Roots.{mention}
 use Rattle.definitions.specs.Order.{wellOrdered}
-use Rattle.definitions.specs.Refusals.{Verdict, accepted, check, check1, check2, check3, check4, check5, check6, check7, firstOf, heldAt, inside, ofModule, passes, poolUsed, refused, runsBefore, scan, scanAreas, scanMentions, scanRecords, shapedAt}
+use Rattle.definitions.specs.Refusals.{Verdict, accepted, check, check1, check2, check3, check4, check5, check6, check7, firstOf, heldAt, inside, ofModule, passes, poolUsed, position, refused, runsBefore, scan, scanAreas, scanMentions, scanRecords, shapedAt, turn, turns, under}
+use Rattle.definitions.proofs.Least.{Each}
+use Rattle.definitions.proofs.Turns.{Listed, at-turn, each-at}
+use Rattle.definitions.proofs.Judged.{all-at}
 
 -- each of the list passes
 abbrev pub EachPasses : List Verdict → Type 0
@@ -22,6 +26,17 @@ unfolding firstOf passes
 parts [] t = tt
 parts (accepted ∷ l) t = (tt, parts l t)
 parts (refused nr a h ∷ l) t = absurd t
+
+-- where the check passes, each number does
+pub number-passes : (s : Areas) (maps : List ℕ) → T (passes (check s maps)) → (n : ℕ) → Listed n → T (passes (under s maps n))
+unfolding check
+number-passes s maps t n l =
+    subst (λ m. T (passes (under s maps m))) (at-turn n l)
+    (each-at (λ m. T (passes (under s maps m))) turns (each turns (parts _ t)) (turn n) (ltb→lt (turn n) (length turns) l))
+  where
+    each : (l : List ℕ) → EachPasses (map (under s maps) l) → Each (λ m. T (passes (under s maps m))) l
+    each [] e = tt
+    each (m ∷ l) e = (e .0, each l (e .1))
 
 cond-left : (b : Bool) (v w : Verdict) → (T (passes w) → ⊥) → T (passes (cond b v w)) → T b
 cond-left true v w n t = tt
@@ -128,104 +143,93 @@ shaped-records s t globals h l = records-all 4 shapedAt s globals ((parts _ t) .
 shaped-records s t expressions h l = records-all 4 shapedAt s expressions ((parts _ t) .1 .1 .1 .1 .0) h l
 
 pub facts : (s : Areas) (maps : List ℕ) → T (passes (check s maps)) → Accepted s
-unfolding check check1 check2 check4 check5 check6 check7 poolUsed passes
+unfolding under turn position turns check1 check2 check4 check5 check6 check7 poolUsed passes
 facts s maps t =
-    let c = parts _ t in
-    let c4 = parts _ (c .1 .1 .1 .0) in
-    let c6 = parts _ (c .1 .1 .1 .1 .1 .0) in
-    let c7 = parts _ (c .1 .1 .1 .1 .1 .1 .0) in
+    let c : (n : ℕ) → Listed n → T (passes (under s maps n)) = number-passes s maps t in
+    let c4 = parts _ (c 4 tt) in
+    let c6 = parts _ (c 6 tt) in
+    let c7 = parts _ (c 7 tt) in
     record {
       sound = record {
-        whole = areas-all 1 _ 8 (c .0);
-        few = areas-all 2 _ 8 (c .1 .0);
-        shapes = shaped-records s (c .1 .1 .1 .0);
+        whole = areas-all 1 _ 8 (c 1 tt);
+        few = areas-all 2 _ 8 (c 2 tt);
+        shapes = shaped-records s (c 4 tt);
         members-used = cond-left (eqb (runsBefore s types (size s types)) (length (pool s types))) accepted (refused 4 5 0) (λ r. r) (c4 .1 .1 .1 .1 .1 .0);
         components-used = cond-left (eqb (runsBefore s expressions (size s expressions)) (length (pool s expressions))) accepted (refused 4 6 0) (λ r. r) (c4 .1 .1 .1 .1 .1 .1 .0);
         mention-areas = mentions-all 4 (λ h. ltb (mentionWord s h 0) 5) s (c4 .1 .1 .1 .1 .1 .1 .1 .0);
-        kinds = records-all 5 ofModule s expressions (c .1 .1 .1 .1 .0);
-        holds = held-records s (c .1 .1 .1 .1 .1 .0);
+        kinds = records-all 5 ofModule s expressions (c 5 tt);
+        holds = held-records s (c 6 tt);
         mentions = mentions-all 6 (λ h. inside s (mention s h)) s (c6 .1 .1 .1 .1 .1 .0);
       };
       type-order = records-all 7 wellOrdered s types (c7 .0);
       expression-order = records-all 7 wellOrdered s expressions (c7 .1 .0);
     }
 
--- no more records than an arena's limit, where each area keeps to its own
-pub size-limit : (s : Areas) → ((i : ℕ) → i < 8 → T (leb (recordsOf s i) (getD limits i 0))) → (a : Arena) → size s a ≤ 4096
-unfolding size width words recordsOf lengthOf widths limits allWords
-size-limit s few types = leb→le _ _ (few 0 (lit< tt))
-size-limit s few constants = leb→le _ _ (few 1 (lit< tt))
-size-limit s few overrides = leb→le _ _ (few 2 (lit< tt))
-size-limit s few globals = leb→le _ _ (few 3 (lit< tt))
-size-limit s few expressions = leb→le _ _ (few 4 (lit< tt))
+-- ---- how many records there may be
 
--- far fewer than N
-pub size-few : (s : Areas) → ((i : ℕ) → i < 8 → T (leb (recordsOf s i) (getD limits i 0))) → (a : Arena) → size s a < N
-size-few s few a = le-trans (suc-le-suc (size-limit s few a)) (lit≤ tt)
+-- an arena is the area of its number
+pub as-area : (s : Areas) (P : ℕ → ℕ → Type 0) → ((i : ℕ) → i < 8 → P i (recordsOf s i)) → (a : Arena) → P (areaNumber a) (size s a)
+unfolding size words recordsOf lengthOf widths allWords areaNumber
+as-area s P f types = f 0 (lit< tt)
+as-area s P f constants = f 1 (lit< tt)
+as-area s P f overrides = f 2 (lit< tt)
+as-area s P f globals = f 3 (lit< tt)
+as-area s P f expressions = f 4 (lit< tt)
+
+module _ (s : Areas) (few : (i : ℕ) → i < 8 → T (leb (recordsOf s i) (getD limits i 0))) where
+  -- where each area keeps to its limit, so does an arena
+  pub size-limit : (a : Arena) → size s a ≤ limit a
+  size-limit = as-area s (λ i n. n ≤ getD limits i 0) (λ i l. leb→le (recordsOf s i) (getD limits i 0) (few i l))
+
+  -- and each has far fewer records than N
+  pub area-few : (i : ℕ) → i < 8 → recordsOf s i < N
+  unfolding limits all
+  area-few i l =
+      le-trans (suc-le-suc (leb→le (recordsOf s i) (getD limits i 0) (few i l))) (ltb→lt (getD limits i 0) N (all-at (λ n. ltb n N) limits 0 tt i l))
+
+  pub size-few : (a : Arena) → size s a < N
+  size-few = as-area s (λ i n. n < N) area-few
+
+-- the most records of all arenas are far fewer than N
+pub all-few : allRecords < N
+unfolding allRecords limits areaNumber
+all-few = lit< tt
+
+-- and the words of marks have a bit for each
+pub all-fit : allRecords ≤ 64 * marksWords
+unfolding marksWords allRecords limits areaNumber
+all-fit = lit≤ tt
+
+-- the facts of numbers 4, 6 and 7 make these pass
+passes4 : (s : Areas) → Sound s → T (passes (check4 s))
+unfolding check4 poolUsed passes
+passes4 s c =
+    let p : (a : Arena) → T (passes (scanRecords 4 shapedAt s a)) = λ a. all-records 4 shapedAt s a (c .shapes a) in
+    let p5 = cond-both (eqb (runsBefore s types (size s types)) (length (pool s types))) accepted (refused 4 5 0) (c .members-used) tt in
+    let p6 = cond-both (eqb (runsBefore s expressions (size s expressions)) (length (pool s expressions))) accepted (refused 4 6 0) (c .components-used) tt in
+    let p7 = all-mentions 4 (λ h. ltb (mentionWord s h 0) 5) s (c .mention-areas) in
+    together _ (p types, (p constants, (p overrides, (p globals, (p expressions, (p5, (p6, (p7, tt))))))))
+
+passes6 : (s : Areas) → Sound s → T (passes (check6 s))
+unfolding check6
+passes6 s c =
+    let p : (a : Arena) → T (passes (scanRecords 6 heldAt s a)) = λ a. all-records 6 heldAt s a (c .holds a) in
+    let p7 = all-mentions 6 (λ h. inside s (mention s h)) s (c .mentions) in
+    together _ (p types, (p constants, (p overrides, (p globals, (p expressions, (p7, tt))))))
+
+passes7 : (s : Areas) → Accepted s → T (passes (check7 s))
+unfolding check7
+passes7 s c =
+    together _ (all-records 7 wellOrdered s types (c .type-order), (all-records 7 wellOrdered s expressions (c .expression-order), tt))
 
 -- the facts, and room in the maps, are all that the check asks
 pub accepts : (s : Areas) (maps : List ℕ) → Accepted s → T (passes (check3 s maps)) → T (passes (check s maps))
-unfolding check check1 check2 check4 check5 check6 check7 poolUsed passes
+unfolding check under turns check1 check2 check5
 accepts s maps c room =
-    together _ (
-      all-areas 1 _ 8 (c .sound .whole),
-      (
-        all-areas 2 _ 8 (c .sound .few),
-        (
-          room,
-          (
-            together _ (
-              all-records 4 shapedAt s types (c .sound .shapes types),
-              (
-                all-records 4 shapedAt s constants (c .sound .shapes constants),
-                (
-                  all-records 4 shapedAt s overrides (c .sound .shapes overrides),
-                  (
-                    all-records 4 shapedAt s globals (c .sound .shapes globals),
-                    (
-                      all-records 4 shapedAt s expressions (c .sound .shapes expressions),
-                      (
-                        cond-both (eqb (runsBefore s types (size s types)) (length (pool s types))) accepted (refused 4 5 0) (c .sound .members-used) tt,
-                        (
-                          cond-both (eqb (runsBefore s expressions (size s expressions)) (length (pool s expressions))) accepted (refused 4 6 0) (c .sound .components-used) tt,
-                          (
-                            all-mentions 4 _ s (c .sound .mention-areas),
-                            tt,
-                          ),
-                        ),
-                      ),
-                    ),
-                  ),
-                ),
-              ),
-            ),
-            (
-              all-records 5 ofModule s expressions (c .sound .kinds),
-              (
-                together _ (
-                  all-records 6 heldAt s types (c .sound .holds types),
-                  (
-                    all-records 6 heldAt s constants (c .sound .holds constants),
-                    (
-                      all-records 6 heldAt s overrides (c .sound .holds overrides),
-                      (
-                        all-records 6 heldAt s globals (c .sound .holds globals),
-                        (
-                          all-records 6 heldAt s expressions (c .sound .holds expressions),
-                          (all-mentions 6 _ s (c .sound .mentions), tt),
-                        ),
-                      ),
-                    ),
-                  ),
-                ),
-                (
-                  together _
-                      (all-records 7 wellOrdered s types (c .type-order), (all-records 7 wellOrdered s expressions (c .expression-order), tt)),
-                  tt,
-                ),
-              ),
-            ),
-          ),
-        ),
-      ),
-    )
+    let p1 = all-areas 1 _ 8 (c .sound .whole) in
+    let p2 = all-areas 2 _ 8 (c .sound .few) in
+    let p4 = passes4 s (c .sound) in
+    let p5 = all-records 5 ofModule s expressions (c .sound .kinds) in
+    let p6 = passes6 s (c .sound) in
+    let p7 = passes7 s c in
+    together _ (p1, (p2, (room, (p4, (p5, (p6, (p7, tt)))))))

@@ -11,8 +11,8 @@ use lib.Dec.{T, eqb, leb, ltb, eqb→eq, leb→le, eqb-refl, le→leb, lt→ltb,
 use borrow.Author.Tests.{eqb-false, eqb-true, ne-eqb}
 use lib.ListN.{length, getD}
 use Rattle.definitions.specs.Lists.{all, always, gather, total}
-use Rattle.definitions.specs.Areas.{recordsOf, Areas, Arena, Elem, N, Words, allWords, at, constants, expressions, globals, lengthOf, limits, mentionCount, mentionWord, numbered, overrides, pool, size, types, width, widths, word, words}
-use Rattle.definitions.specs.Slots.{body, typeBody, exprBody, Slot, below, count, fill, free, layout, may, must, slots, start, typeSlots, unused}
+use Rattle.definitions.specs.Areas.{recordsOf, Areas, Arena, Elem, N, Words, allWords, areaNumber, at, constants, expressions, globals, lengthOf, limit, limits, mentionCount, mentionWidth, mentionWord, numbered, overrides, pool, size, types, width, widths, word, words}
+use Rattle.definitions.specs.Slots.{body, typeBody, exprBody, Slot, below, count, fill, free, layout, may, must, slots, start, tail, typeSlots, unused}
 use Rattle.definitions.specs.References.{hasRun, namedFrom, references, run, span}
 use Rattle.definitions.specs.Roots.{mention}
 use Rattle.definitions.specs.Order.{behind, later, pastDep, onePast, sizedBy, wellOrdered, withBehind}
@@ -208,10 +208,10 @@ module _ (s : Areas) (m : List Elem) (c : Sound s) (inside : Within m (Inside s)
       within-slots (λ x. x ∈ m) (word s a h) 0 (layout s a h)
       (λ y j. closed (at a h) y i (append-left y (namedFrom (word s a h) 0 (layout s a h)) (map (at a) (run s a h)) j))
 
-  sized-layout : (u : ℕ) → word s types u 0 ≡ 2 → layout s types u ≡ below 4 ∷ below 4 ∷ must types ∷ must overrides ∷ free ∷ []
+  sized-layout : (u : ℕ) → word s types u 0 ≡ 2 → layout s types u ≡ below 4 ∷ below 4 ∷ must types ∷ must overrides ∷ tail
   unfolding layout slots typeSlots fill body typeBody exprBody
   sized-layout u e =
-      subst (λ k. below 4 ∷ below 4 ∷ fill 2 (getD typeSlots k []) ++ (free ∷ []) ≡ below 4 ∷ below 4 ∷ must types ∷ must overrides ∷ free ∷ []) (sym e) refl
+      subst (λ k. typeBody k ++ tail ≡ below 4 ∷ below 4 ∷ must types ∷ must overrides ∷ tail) (sym e) refl
 
   past-init : (b w : ℕ) → ((w ≡ N → ⊥) → at expressions w ∈ m) → onePast (adjusted m b (may expressions) w) ≤ rank (isKept m expressions) (onePast w)
   unfolding onePast adjusted
@@ -293,26 +293,26 @@ module _ (s : Areas) (m : List Elem) (c : Sound s) (inside : Within m (Inside s)
 
   -- ---- checks 1 and 2, and the mentions
 
-  mentions-total : (n : ℕ) → total always (λ i. length (mentionAfter s m i)) n ≡ n * 2
+  mentions-total : (n : ℕ) → total always (λ i. length (mentionAfter s m i)) n ≡ n * mentionWidth
   unfolding total mentionAfter
   mentions-total zero = refl
   mentions-total (suc n) = rw (mentions-total n) (omega arith)
 
-  pub mentions-length : length (after s m .mentions) ≡ mentionCount s * 2
+  pub mentions-length : length (after s m .mentions) ≡ mentionCount s * mentionWidth
   unfolding keptAreas mentionsUpTo
   mentions-length = length-gather always (mentionAfter s m) (mentionCount s) ∙ mentions-total (mentionCount s)
 
   pub mentionCount-after : mentionCount (after s m) ≡ mentionCount s
   unfolding mentionCount
-  mentionCount-after = ap (λ n. n / 2) mentions-length ∙ mul-div-cancel (mentionCount s) (lit< tt)
+  mentionCount-after = ap (λ n. n / mentionWidth) mentions-length ∙ mul-div-cancel (mentionCount s) (lit< tt)
 
-  pub mentionWord-after : (h k : ℕ) → h < mentionCount s → k < 2 → mentionWord (after s m) h k ≡ getD (mentionAfter s m h) k 0
+  pub mentionWord-after : (h k : ℕ) → h < mentionCount s → k < mentionWidth → mentionWord (after s m) h k ≡ getD (mentionAfter s m h) k 0
   unfolding mentionWord keptAreas mentionsUpTo
   mentionWord-after h k l b =
       ap (λ j. getD (gather always (mentionAfter s m) (mentionCount s)) (j + k) 0) (sym (mentions-total h))
       ∙ gather-word always (mentionAfter s m) h (mentionCount s) k 0 tt l (two b)
     where
-      two : k < 2 → k < length (mentionAfter s m h)
+      two : k < mentionWidth → k < length (mentionAfter s m h)
       two b = unfold mentionAfter in b
 
   pub mention-after : (h : ℕ) → h < mentionCount s → mention (after s m) h ≡ moved m (mention s h)
@@ -332,7 +332,7 @@ module _ (s : Areas) (m : List Elem) (c : Sound s) (inside : Within m (Inside s)
   whole-after (suc (suc (suc (suc zero)))) l = arena-whole expressions
   whole-after (suc (suc (suc (suc (suc zero))))) l = rw mod-one tt
   whole-after (suc (suc (suc (suc (suc (suc zero)))))) l = rw mod-one tt
-  whole-after (suc (suc (suc (suc (suc (suc (suc zero))))))) l = rw (mentions-length, mul-mod-left (mentionCount s) 2) tt
+  whole-after (suc (suc (suc (suc (suc (suc (suc zero))))))) l = rw (mentions-length, mul-mod-left (mentionCount s) mentionWidth) tt
   whole-after (suc (suc (suc (suc (suc (suc (suc (suc i)))))))) l = absurd (omega arith)
 
   size-le : (a : Arena) → size (after s m) a ≤ size s a
@@ -346,21 +346,21 @@ module _ (s : Areas) (m : List Elem) (c : Sound s) (inside : Within m (Inside s)
       ap length e ∙ length-gather (isKept m a) (λ j. map (newHandle (isKept m a)) (run s a j)) (size s a) ∙ start-total s m c a (size s a) (le-refl (size s a)) in
       rw (q, ← eqb→eq (runsBefore s a (size s a)) (length (pool s a)) t) (total-any (isKept m a) (span s a) (size s a))
 
-  arena-few : (a : Arena) (n : ℕ) → T (leb (size s a) n) → T (leb (size (after s m) a) n)
-  arena-few a n t = le→leb (size (after s m) a) n (le-trans (size-le a) (leb→le (size s a) n t))
+  arena-few : (a : Arena) → T (leb (size s a) (limit a)) → T (leb (size (after s m) a) (limit a))
+  arena-few a t = le→leb (size (after s m) a) (limit a) (le-trans (size-le a) (leb→le (size s a) (limit a) t))
 
   few-after : (i : ℕ) → i < 8 → T (leb (recordsOf (after s m) i) (getD limits i 0))
-  unfolding recordsOf lengthOf allWords widths limits words width size pool keptAreas mentionCount
-  few-after zero l = arena-few types 4096 (c .few 0 (lit< tt))
-  few-after (suc zero) l = arena-few constants 4096 (c .few 1 (lit< tt))
-  few-after (suc (suc zero)) l = arena-few overrides 4096 (c .few 2 (lit< tt))
-  few-after (suc (suc (suc zero))) l = arena-few globals 4096 (c .few 3 (lit< tt))
-  few-after (suc (suc (suc (suc zero)))) l = arena-few expressions 4096 (c .few 4 (lit< tt))
+  unfolding recordsOf lengthOf allWords widths words areaNumber size pool keptAreas mentionCount
+  few-after zero l = arena-few types (c .few 0 (lit< tt))
+  few-after (suc zero) l = arena-few constants (c .few 1 (lit< tt))
+  few-after (suc (suc zero)) l = arena-few overrides (c .few 2 (lit< tt))
+  few-after (suc (suc (suc zero))) l = arena-few globals (c .few 3 (lit< tt))
+  few-after (suc (suc (suc (suc zero)))) l = arena-few expressions (c .few 4 (lit< tt))
   few-after (suc (suc (suc (suc (suc zero))))) l =
       rw div-one (le→leb _ _ (le-trans (pool-le types refl (c .members-used)) (leb→le _ _ (rw div-one at (c .few 5 (lit< tt))))))
   few-after (suc (suc (suc (suc (suc (suc zero)))))) l =
       rw div-one (le→leb _ _ (le-trans (pool-le expressions refl (c .components-used)) (leb→le _ _ (rw div-one at (c .few 6 (lit< tt))))))
-  few-after (suc (suc (suc (suc (suc (suc (suc zero))))))) l = subst (λ n. T (leb n 4096)) (sym mentionCount-after) (c .few 7 (lit< tt))
+  few-after (suc (suc (suc (suc (suc (suc (suc zero))))))) l = subst (λ n. T (leb n (getD limits 7 0))) (sym mentionCount-after) (c .few 7 (lit< tt))
   few-after (suc (suc (suc (suc (suc (suc (suc (suc i)))))))) l = absurd (omega arith)
 
   -- ---- the compacted module is accepted

@@ -6,21 +6,21 @@ use mathlib.Core.Logic.{_⊎_, ⊎-elim}
 use mathlib.Core.List.{List, [], map}
 use Prim.Native.Nat.{ℕ, _<_}
 use lib.Dec.{T}
-use Rattle.definitions.specs.Areas.{Areas, Arena, Elem, at, size}
+use Rattle.definitions.specs.Areas.{Areas, Arena, Elem, at, mentionCount, size}
 use Rattle.definitions.specs.References.{references}
-use Rattle.definitions.specs.Roots.{commonRoots, moreRoots, roots}
+use Rattle.definitions.specs.Roots.{commonRoots, mention, moreRoots, roots}
 use Rattle.definitions.specs.Order.{order}
-use Rattle.definitions.specs.Sweep.{kept}
+use Rattle.definitions.specs.Sweep.{kept, keptFrom}
 use Rattle.definitions.specs.Refusals.{check, check3, inside, passes}
 use Rattle.definitions.specs.Numbering.{isKept, moved, newHandle, rank}
 use Rattle.definitions.specs.Records.{keptAreas}
 use Rattle.definitions.specs.Outcome.{Maps, lengths, outcome}
 use Rattle.definitions.proofs.Least.{_∈_, none-in, append-left, append-cases, Within, Closed, Reach, reached-in, sweep-reached}
-use Rattle.definitions.proofs.Accepted.{Sound, facts, accepts}
-use Rattle.definitions.proofs.Kept.{inside-lt, OrderedOn, all-ordered, kept-roots, kept-inside, kept-closed, kept-least}
+use Rattle.definitions.proofs.Accepted.{Sound, Accepted, facts, accepts}
+use Rattle.definitions.proofs.Kept.{Inside, inside-lt, OrderedOn, all-ordered, roots-inside, from-roots, from-closed, from-least, from-more, kept-inside}
 use Rattle.definitions.proofs.Places.{new-kept, new-mono, rank-below, no-gap}
-use Rattle.definitions.proofs.Reading.{references-after}
-use Rattle.definitions.proofs.SecondPass.{accepted-again, drops-nothing}
+use Rattle.definitions.proofs.Reading.{after, moved-refers}
+use Rattle.definitions.proofs.SecondPass.{mentions-in-roots, roots-after, accepted-again, drops-nothing}
 use Rattle.definitions.proofs.Identity.{second-pass, outcome-self}
 
 -- demand 3 of a module and a flag, sentence by sentence
@@ -52,34 +52,56 @@ pub record Demand3 (s : Areas) (keep : Bool) : Type 1 where
   pub again-outcome : (p : Maps) → T (passes (check3 (keptAreas s (kept s keep)) (lengths p)))
       → outcome (keptAreas s (kept s keep)) p keep .areas ≡ keptAreas s (kept s keep)
 
--- a kept record's references, at its new place
-moved-refers : (s : Areas) (c : Sound s) (keep : Bool) → OrderedOn s (kept s keep) → (x : Elem) → x ∈ kept s keep
-    → references (keptAreas s (kept s keep)) (moved (kept s keep) x) ≡ map (moved (kept s keep)) (references s x)
-unfolding moved
-moved-refers s c keep o (at a h) i =
-    rw (new-kept (kept s keep) a h i) (references-after s (kept s keep) c (kept-inside s c keep) (kept-closed s c keep o) a h i)
-
 -- it is enough that what is kept is well ordered
 pub demand3-of : (s : Areas) (keep : Bool) → Sound s → OrderedOn s (kept s keep) → Demand3 s keep
 demand3-of s keep c o =
     record {
-      elements = kept-inside s c keep;
-      holds-roots = kept-roots s keep;
-      closed = kept-closed s c keep o;
-      least = kept-least s keep;
-      below-count = λ a h i.
-          rw (new-kept (kept s keep) a h i) (rank-below (kept s keep) a h (size s a) i (inside-lt s a h (kept-inside s c keep (at a h) i)));
-      in-order = λ a. new-mono (kept s keep) a;
+      elements = ins;
+      holds-roots = from-roots s rs;
+      closed = clo;
+      least = from-least s rs;
+      below-count = λ a h i. rw (new-kept m a h i) (rank-below m a h (size s a) i (inside-lt s a h (ins (at a h) i)));
+      in-order = λ a. new-mono m a;
       without-gap = λ a i l.
-          let q = no-gap (kept s keep) a (size s a) i l in
-          (q .from, q .from-kept, new-kept (kept s keep) a (q .from) (q .from-kept) ∙ q .from-rank);
-      refers = moved-refers s c keep o;
-      again-accepted = λ maps. accepts (keptAreas s (kept s keep)) maps (accepted-again s c keep o);
-      again-keeps = drops-nothing s c keep o;
-      again-same = second-pass s c keep o;
-      again-outcome = λ p room.
-          outcome-self (keptAreas s (kept s keep)) p keep (accepts (keptAreas s (kept s keep)) (lengths p) (accepted-again s c keep o) room) (second-pass s c keep o);
+          let q = no-gap m a (size s a) i l in
+          (q .from, q .from-kept, new-kept m a (q .from) (q .from-kept) ∙ q .from-rank);
+      refers = moved-refers s m c ins clo;
+      again-accepted = λ maps. accepts (after s m) maps again;
+      again-keeps = drops-nothing s c rs (roots-inside s c keep) o mentioned rs′ ins′ roots-again;
+      again-same = same-again;
+      again-outcome = λ p room. outcome-self (after s m) p keep (accepts (after s m) (lengths p) again room) same-again;
     }
+  where
+    rs : List Elem
+    rs = roots s keep
+
+    m : List Elem
+    m = kept s keep
+
+    ins : Within m (Inside s)
+    ins = kept-inside s c keep
+
+    clo : Closed s (λ x. x ∈ m)
+    clo = from-closed s rs c (roots-inside s c keep) o
+
+    mentioned : (h : ℕ) → h < mentionCount s → mention s h ∈ m
+    mentioned h l = from-roots s rs (mention s h) (mentions-in-roots s keep h l)
+
+    again : Accepted (after s m)
+    again = accepted-again s c rs (roots-inside s c keep) o mentioned
+
+    -- the second pass's roots are those of what was kept
+    rs′ : List Elem
+    rs′ = roots (after s m) keep
+
+    ins′ : Within rs′ (Inside (after s m))
+    ins′ = roots-inside (after s m) (again .sound) keep
+
+    roots-again : (x : Elem) → x ∈ rs → moved m x ∈ rs′
+    roots-again x i = roots-after s m c ins clo keep x (from-roots s rs x i) i
+
+    same-again : keptAreas (after s m) (kept (after s m) keep) ≡ after s m
+    same-again = second-pass s c rs (roots-inside s c keep) o mentioned rs′ ins′ roots-again
 
 -- so demand 3 holds of every accepted module, for either flag
 pub demand3 : (s : Areas) (maps : List ℕ) (keep : Bool) → T (passes (check s maps)) → Demand3 s keep
@@ -91,10 +113,10 @@ demand3 s maps keep t =
 
 -- what the sweep keeps of an accepted module is exactly what references lead to from the roots
 pub kept-reach : (s : Areas) (maps : List ℕ) (keep : Bool) → T (passes (check s maps)) → (x : Elem) → Reach s (roots s keep) x → x ∈ kept s keep
-kept-reach s maps keep t = reached-in s (roots s keep) (kept s keep) (demand3 s maps keep t .closed) (kept-roots s keep)
+kept-reach s maps keep t = reached-in s (roots s keep) (kept s keep) (demand3 s maps keep t .closed) (from-roots s (roots s keep))
 
 pub reach-kept : (s : Areas) (keep : Bool) (x : Elem) → x ∈ kept s keep → Reach s (roots s keep) x
-unfolding kept
+unfolding keptFrom
 reach-kept s keep = sweep-reached s (roots s keep) (order s)
 
 -- ---- the two flags
@@ -107,5 +129,4 @@ fewer-roots s x r =
 
 -- what is kept under No is kept under Yes
 pub yes-keeps : (s : Areas) (maps : List ℕ) → T (passes (check s maps)) → Within (kept s false) (λ x. x ∈ kept s true)
-yes-keeps s maps t =
-    kept-least s false (λ x. x ∈ kept s true) (demand3 s maps true t .closed) (λ x r. kept-roots s true x (fewer-roots s x r))
+yes-keeps s maps t = from-more s (roots s false) (roots s true) (fewer-roots s)

@@ -1,30 +1,38 @@
 -- Document 01, "Refusal numbers": the check, as it scans, answers what the faults, as a plain relation, call for.
 -- Assumes nothing.
-use mathlib.Core.Path.{_≡_, refl}
+use mathlib.Core.Path.{_≡_, refl, sym, ap, subst, _∙_}
 use mathlib.Core.Bool.{Bool}
 use mathlib.Core.Logic.{inl, inr, ⊎-elim}
-use mathlib.Core.List.{List, [], _∷_}
-use Prim.Native.Nat.{ℕ, suc, _+_, _*_, _%_, _≤_, _<_, zero-le}
+use mathlib.Core.List.{List, [], _∷_, map}
+use Prim.Native.Nat.{ℕ, suc, _+_, _*_, _%_, _<_, zero-le}
 use native.Mathlib.Nat.{le-refl, le-trans}
 use native.Mathlib.Decide.{decLt}
 use native.Mathlib.Omega.{arith}
 use lib.Dec.{T, eqb, ltb, leb, eqb→eq, lit<, lit≤}
-use lib.ListN.{length, getD}
+use lib.ListN.{length, getD, List·getD-map}
 use Rattle.definitions.specs.Areas.{Areas, Arena, N, at, constants, eachArena, expressions, globals, lengthOf, limits, mentionCount}
 use Rattle.definitions.specs.Areas.{mentionWord, areaNumber, numbered, overrides, pool, recordsOf, size, types, widths}
 use Rattle.definitions.specs.Roots.{mention}
 use Rattle.definitions.specs.Order.{wellOrdered}
 use Rattle.definitions.specs.Refusals.{Verdict, accepted, check, check1, check2, check3, check4, check5, check6, check7, heldAt, inside}
-use Rattle.definitions.specs.Refusals.{ofModule, passes, poolUsed, refused, runsBefore, scanAreas, scanMentions, scanRecords, shapedAt}
+use Rattle.definitions.specs.Refusals.{ofModule, passes, poolUsed, position, refused, runsBefore, scanAreas, scanMentions, scanRecords, shapedAt}
+use Rattle.definitions.specs.Refusals.{turn, turns, under}
 use Rattle.definitions.specs.Faults.{CalledFor, Fault, NoLater, ragged, crowded, shortMap, misshapen, longMembers, longComponents}
 use Rattle.definitions.specs.Faults.{mentionArea, outOfScope, missing, missingInRun, missingMention, misplaced}
+use Rattle.definitions.proofs.Least.{Each}
+use Rattle.definitions.proofs.Turns.{Listed, at-turn, turn-once, turns-rising}
 use Rattle.definitions.proofs.Accepted.{areas-all, scan-all, size-few}
 use Rattle.definitions.proofs.Kept.{Plain}
-use Rattle.definitions.proofs.Judged.{Between, By, Early, Rising, areas-between, areas-by, arenas-at, arenas-rise, arenas-say, cond-says}
-use Rattle.definitions.proofs.Judged.{first-between, first-by, first-says, leb-fails, ltb-fails, not-eqb, not-leb, not-ltb}
-use Rattle.definitions.proofs.Judged.{passes-or-by, records-between, records-by, scan-says}
+use Rattle.definitions.proofs.Judged.{Between, By, Early, Rising, Under, areas-under, areas-by, arenas-at, arenas-rise, arenas-say, code, cond-says}
+use Rattle.definitions.proofs.Judged.{each-says, first-between, first-by, first-says, leb-fails, ltb-fails, not-eqb, not-leb, not-ltb}
+use Rattle.definitions.proofs.Judged.{passes-or-by, records-between, records-by, room, scan-says, turns-rise}
 use Rattle.definitions.proofs.Failing.{absent-fails, fails4, fails5, fails6, fails6-run, fails7, fault4, fault5, fault6, fault7}
 use Rattle.definitions.proofs.Failing.{misplaced-plain, outside-absent, runs-end}
+
+-- number 6 comes after number 2
+two-six : turn 2 < turn 6
+unfolding turn position turns
+two-six = lit< tt
 
 module _ (s : Areas) (maps : List ℕ) where
   -- ---- the verdicts in their order
@@ -45,7 +53,7 @@ module _ (s : Areas) (maps : List ℕ) where
   abbrev mentioned : ℕ → Bool
   mentioned h = inside s (mention s h)
 
-  -- the verdicts of numbers 4, 6 and 7, and of all numbers
+  -- the verdicts of numbers 4, 6 and 7
   abbrev rest4 : List Verdict
   rest4 = poolUsed 5 s types ∷ poolUsed 6 s expressions ∷ scanMentions 4 known s ∷ []
 
@@ -61,96 +69,117 @@ module _ (s : Areas) (maps : List ℕ) where
   abbrev list7 : List Verdict
   list7 = scanRecords 7 wellOrdered s types ∷ scanRecords 7 wellOrdered s expressions ∷ []
 
-  abbrev list : List Verdict
-  list = check1 s ∷ check2 s ∷ check3 s maps ∷ check4 s ∷ check5 s ∷ check6 s ∷ check7 s ∷ []
-
   -- does a pool end with its runs ?
   abbrev used : Arena → Bool
   used a = eqb (runsBefore s a (size s a)) (length (pool s a))
 
-  -- number and area as one number, 8 to a number: where a pool's verdict stands
-  pool-between : (a : Arena) (area : ℕ) → Between (32 + area) (32 + suc area) (poolUsed area s a)
+  -- where a pool's verdict stands
+  pool-between : (a : Arena) (area : ℕ) → Between (code 4 area) (code 4 (suc area)) (poolUsed area s a)
   unfolding poolUsed
   pool-between a area =
-      cond-says (Between (32 + area) (32 + suc area)) (used a) accepted (refused 4 area 0) (λ t. omega arith) (λ f. (omega arith, omega arith))
+      cond-says (Between (code 4 area) (code 4 (suc area))) (used a) accepted (refused 4 area 0) (λ t. omega arith)
+      (λ f. (omega arith, omega arith))
+
+  -- where those of an arena's records stand
+  arena-between : (nr : ℕ) (ok : Areas → Arena → ℕ → Bool) (a : Arena)
+      → Between (code nr (areaNumber a)) (code nr (suc (areaNumber a))) (scanRecords nr ok s a)
+  unfolding scanRecords
+  arena-between nr ok a =
+      records-between nr (areaNumber a) (ok s a) (size s a) (areaNumber a) (suc (areaNumber a)) (le-refl (areaNumber a)) (le-refl (suc (areaNumber a)))
 
   -- where those of number 4 stand
-  rising4 : Rising 32 list4 40
-  unfolding scanRecords scanMentions
+  rising4 : Rising (code 4 0) list4 (code 4 room)
+  unfolding scanMentions
   rising4 =
-      arenas-rise (scanRecords 4 shapedAt s) rest4 32 40
-      (λ a. records-between 4 (areaNumber a) (shapedAt s a) (size s a) (32 + areaNumber a) (32 + suc (areaNumber a)) (omega arith) (omega arith)) (
-        38,
+      arenas-rise (scanRecords 4 shapedAt s) rest4 4 (code 4 room) (arena-between 4 shapedAt) (
+        code 4 6,
         pool-between types 5,
-        (39, pool-between expressions 6, (40, records-between 4 7 known (mentionCount s) 39 40 (lit≤ tt) (lit< tt), le-refl 40)),
+        (
+          code 4 7,
+          pool-between expressions 6,
+          (code 4 room, records-between 4 7 known (mentionCount s) 7 room (lit≤ tt) (lit< tt), le-refl (code 4 room)),
+        ),
       )
 
   -- those of number 6
-  rising6 : Rising 48 list6 56
-  unfolding scanRecords scanMentions
+  rising6 : Rising (code 6 0) list6 (code 6 room)
+  unfolding scanMentions
   rising6 =
-      arenas-rise (scanRecords 6 heldAt s) rest6 48 56
-      (λ a. records-between 6 (areaNumber a) (heldAt s a) (size s a) (48 + areaNumber a) (48 + suc (areaNumber a)) (omega arith) (omega arith))
-      (56, records-between 6 7 mentioned (mentionCount s) 53 56 (lit≤ tt) (lit< tt), le-refl 56)
+      arenas-rise (scanRecords 6 heldAt s) rest6 6 (code 6 room) (arena-between 6 heldAt)
+      (code 6 room, records-between 6 7 mentioned (mentionCount s) 5 room (lit≤ tt) (lit< tt), le-refl (code 6 room))
 
   -- those of number 7
-  rising7 : Rising 56 list7 64
+  rising7 : Rising (code 7 0) list7 (code 7 room)
   unfolding scanRecords areaNumber
   rising7 = (
-    57,
-    records-between 7 0 (wellOrdered s types) (size s types) 56 57 (lit≤ tt) (lit< tt),
-    (64, records-between 7 4 (wellOrdered s expressions) (size s expressions) 57 64 (lit≤ tt) (lit< tt), le-refl 64),
-  )
-
-  -- that of number 2
-  between2 : Between 16 24 (check2 s)
-  unfolding check2 scanAreas
-  between2 = areas-between 2 limited 8 24 (lit≤ tt)
-
-  -- and those of all numbers
-  rising : Rising 8 list 64
-  unfolding check1 check3 check4 check5 check6 check7 scanAreas scanRecords areaNumber
-  rising = (
-    16,
-    areas-between 1 whole 8 16 (lit≤ tt),
+    code 7 1,
+    records-between 7 0 (wellOrdered s types) (size s types) 0 1 (lit≤ tt) (lit< tt),
     (
-      24,
-      between2,
-      (
-        32,
-        areas-between 3 mapped 5 32 (lit≤ tt),
-        (
-          40,
-          first-between 32 list4 40 rising4,
-          (
-            48,
-            records-between 5 4 (ofModule s expressions) (size s expressions) 40 48 (lit≤ tt) (lit< tt),
-            (56, first-between 48 list6 56 rising6, (64, first-between 56 list7 64 rising7, le-refl 64)),
-          ),
-        ),
-      ),
+      code 7 room,
+      records-between 7 4 (wellOrdered s expressions) (size s expressions) 1 room (lit≤ tt) (lit< tt),
+      le-refl (code 7 room),
     ),
   )
 
-  -- where one of the numbers refuses so early, so does the check
-  by : (k h i : ℕ) → By k h (getD list i accepted) → By k h (check s maps)
-  unfolding check
-  by k h i b = first-by k h 8 list 64 rising i b
+  -- so each number's verdict stands under the number
+  under1 : Under 1 (check1 s)
+  unfolding check1 scanAreas
+  under1 = areas-under 1 whole 8 (lit≤ tt)
 
-  -- where one of number 4 does, so does the check
-  by4 : (k h i : ℕ) → By k h (getD list4 i accepted) → By k h (check s maps)
+  under2 : Under 2 (check2 s)
+  unfolding check2 scanAreas
+  under2 = areas-under 2 limited 8 (lit≤ tt)
+
+  under3 : Under 3 (check3 s maps)
+  unfolding check3 scanAreas
+  under3 = areas-under 3 mapped 5 (lit≤ tt)
+
+  under4 : Under 4 (check4 s)
   unfolding check4
-  by4 k h i b = by k h 3 (first-by k h 32 list4 40 rising4 i b)
+  under4 = first-between (code 4 0) list4 (code 4 room) rising4
+
+  under5 : Under 5 (check5 s)
+  unfolding check5 scanRecords areaNumber
+  under5 = records-between 5 4 (ofModule s expressions) (size s expressions) 0 room (lit≤ tt) (lit< tt)
+
+  under6 : Under 6 (check6 s)
+  unfolding check6
+  under6 = first-between (code 6 0) list6 (code 6 room) rising6
+
+  under7 : Under 7 (check7 s)
+  unfolding check7
+  under7 = first-between (code 7 0) list7 (code 7 room) rising7
+
+  stands : Each (λ n. Under n (under s maps n)) turns
+  unfolding turns under
+  stands = (under1, (under2, (under3, (under4, (under5, (under6, (under7, tt)))))))
+
+  -- where a number refuses so early, so does the check
+  by : (n : ℕ) → Listed n → (k h : ℕ) → By k h (under s maps n) → By k h (check s maps)
+  unfolding check under
+  by n t k h b =
+      first-by k h (0 * room) (map (under s maps) turns) ((0 + length turns) * room) (turns-rise (under s maps) 0 turns turns-rising stands) (turn n)
+      (subst (By k h) (sym (List·getD-map (under s maps) turns (turn n) 0 ∙ ap (under s maps) (at-turn n t))) b)
+
+  -- where number 2 does, so does the check
+  by2 : (k h : ℕ) → By k h (check2 s) → By k h (check s maps)
+  unfolding under turn position turns
+  by2 k h b = by 2 tt k h b
+
+  -- where one of number 4 does
+  by4 : (k h i : ℕ) → By k h (getD list4 i accepted) → By k h (check s maps)
+  unfolding under turn position turns check4
+  by4 k h i b = by 4 tt k h (first-by k h (code 4 0) list4 (code 4 room) rising4 i b)
 
   -- one of number 6
   by6 : (k h i : ℕ) → By k h (getD list6 i accepted) → By k h (check s maps)
-  unfolding check6
-  by6 k h i b = by k h 5 (first-by k h 48 list6 56 rising6 i b)
+  unfolding under turn position turns check6
+  by6 k h i b = by 6 tt k h (first-by k h (code 6 0) list6 (code 6 room) rising6 i b)
 
   -- one of number 7
   by7 : (k h i : ℕ) → By k h (getD list7 i accepted) → By k h (check s maps)
-  unfolding check7
-  by7 k h i b = by k h 6 (first-by k h 56 list7 64 rising7 i b)
+  unfolding under turn position turns check7
+  by7 k h i b = by 7 tt k h (first-by k h (code 7 0) list7 (code 7 room) rising7 i b)
 
   -- ---- what is reported is a fault
 
@@ -176,6 +205,21 @@ module _ (s : Areas) (maps : List ℕ) where
       let l = runs-end s a (scan-all (shapedAt s a) (refused 4 (areaNumber a)) (λ k u. u) (size s a) t) (size s a) (le-refl (size s a)) in
       r (omega arith))
 
+  -- of number 1
+  found1 : Found (check1 s)
+  unfolding check1 scanAreas
+  found1 = scan-says Found whole (λ a. refused 1 a 0) 8 tt (λ a l f. ragged l (not-eqb (lengthOf s a % getD widths a 1) 0 f))
+
+  -- of number 2
+  found2 : Found (check2 s)
+  unfolding check2 scanAreas
+  found2 = scan-says Found limited (λ a. refused 2 a 0) 8 tt (λ a l f. crowded l (not-leb (recordsOf s a) (getD limits a 0) f))
+
+  -- of number 3
+  found3 : Found (check3 s maps)
+  unfolding check3 scanAreas
+  found3 = scan-says Found mapped (λ a. refused 3 a 0) 5 tt (λ a l f. shortMap l (not-leb (recordsOf s a) (getD maps a 0) f))
+
   -- of number 4
   found4 : Found (check4 s)
   unfolding check4 scanMentions
@@ -188,6 +232,11 @@ module _ (s : Areas) (maps : List ℕ) where
           λ v. (scan-says Found known (refused 4 7) (mentionCount s) tt (λ h l f. mentionArea l (not-ltb (mentionWord s h 0) 5 f)), λ w. tt),
         ),
       )))
+
+  -- of number 5
+  found5 : Found (check5 s)
+  unfolding check5 areaNumber
+  found5 = records-found 5 ofModule expressions (fault5 s maps)
 
   -- of number 6
   found6 : Found (check6 s)
@@ -211,23 +260,13 @@ module _ (s : Areas) (maps : List ℕ) where
 
   -- of the check
   found : Found (check s maps)
-  unfolding check check1 check2 check3 check5 scanAreas areaNumber
-  found =
-      first-says Found list tt (
-        scan-says Found whole (λ a. refused 1 a 0) 8 tt (λ a l f. ragged l (not-eqb (lengthOf s a % getD widths a 1) 0 f)),
-        λ t1. (
-          scan-says Found limited (λ a. refused 2 a 0) 8 tt (λ a l f. crowded l (not-leb (recordsOf s a) (getD limits a 0) f)),
-          λ t2. (
-            scan-says Found mapped (λ a. refused 3 a 0) 5 tt (λ a l f. shortMap l (not-leb (recordsOf s a) (getD maps a 0) f)),
-            λ t3. (found4, λ t4. (records-found 5 ofModule expressions (fault5 s maps), λ t5. (found6, λ t6. (found7, λ t7. tt)))),
-          ),
-        ),
-      )
+  unfolding check turns under
+  found = each-says Found (under s maps) turns tt (found1, (found2, (found3, (found4, (found5, (found6, (found7, tt)))))))
 
   -- ---- a fault makes the check refuse, there or before
 
   -- an arena's number is an area's
-  counted : (a : Arena) → areaNumber a < 8
+  counted : (a : Arena) → areaNumber a < room
   unfolding areaNumber
   counted types = lit< tt
   counted constants = lit< tt
@@ -241,93 +280,103 @@ module _ (s : Areas) (maps : List ℕ) where
   few t = size-few s (areas-all 2 limited 8 t)
 
   -- so a later number may go by that
-  late : (k h : ℕ) → 24 ≤ k → (((a : Arena) → size s a < N) → By k h (check s maps)) → By k h (check s maps)
-  late k h l f = ⊎-elim (λ t. f (few t)) (λ b. by k h 1 b) (passes-or-by k h 16 24 l (check2 s) between2)
+  late : (n a h : ℕ) → turn 2 < turn n → (((b : Arena) → size s b < N) → By (code n a) h (check s maps)) → By (code n a) h (check s maps)
+  late n a h l f =
+      ⊎-elim (λ t. f (few t)) (by2 (code n a) h) (passes-or-by (code n a) h (code 2 0) (code 2 room) (omega arith) (check2 s) under2)
 
   -- a record that fails the test of number 4
-  met4 : (a : Arena) (h : ℕ) → h < size s a → (T (shapedAt s a h) → ⊥) → By (32 + areaNumber a) h (check s maps)
+  met4 : (a : Arena) (h : ℕ) → h < size s a → (T (shapedAt s a h) → ⊥) → By (code 4 (areaNumber a)) h (check s maps)
   unfolding scanRecords
   met4 a h l f =
-      by4 (32 + areaNumber a) h (areaNumber a)
+      by4 (code 4 (areaNumber a)) h (areaNumber a)
       (rw (arenas-at (scanRecords 4 shapedAt s) rest4 a) (records-by 4 (areaNumber a) (shapedAt s a) (size s a) h l f))
 
   -- of number 6
-  met6 : (a : Arena) (h : ℕ) → h < size s a → (((b : Arena) → size s b < N) → T (heldAt s a h) → ⊥) → By (48 + areaNumber a) h (check s maps)
+  met6 : (a : Arena) (h : ℕ) → h < size s a → (((b : Arena) → size s b < N) → T (heldAt s a h) → ⊥)
+      → By (code 6 (areaNumber a)) h (check s maps)
   unfolding scanRecords
   met6 a h l f =
-      late (48 + areaNumber a) h (omega arith)
+      late 6 (areaNumber a) h two-six
       (λ w.
-      by6 (48 + areaNumber a) h (areaNumber a)
+      by6 (code 6 (areaNumber a)) h (areaNumber a)
       (rw (arenas-at (scanRecords 6 heldAt s) rest6 a) (records-by 6 (areaNumber a) (heldAt s a) (size s a) h l (f w))))
 
   -- of number 7
-  met7 : (a : Arena) (h : ℕ) → h < size s a → Plain (at a h) → (T (wellOrdered s a h) → ⊥) → By (56 + areaNumber a) h (check s maps)
+  met7 : (a : Arena) (h : ℕ) → h < size s a → Plain (at a h) → (T (wellOrdered s a h) → ⊥) → By (code 7 (areaNumber a)) h (check s maps)
   unfolding scanRecords areaNumber
-  met7 types h l p f = by7 56 h 0 (records-by 7 0 (wellOrdered s types) (size s types) h l f)
+  met7 types h l p f = by7 (code 7 0) h 0 (records-by 7 0 (wellOrdered s types) (size s types) h l f)
   met7 constants h l p f = absurd p
   met7 overrides h l p f = absurd p
   met7 globals h l p f = absurd p
-  met7 expressions h l p f = by7 60 h 1 (records-by 7 4 (wellOrdered s expressions) (size s expressions) h l f)
+  met7 expressions h l p f = by7 (code 7 4) h 1 (records-by 7 4 (wellOrdered s expressions) (size s expressions) h l f)
 
   -- a pool longer than its runs
-  met-pool : (a : Arena) (area : ℕ) → runsBefore s a (size s a) < length (pool s a) → By (32 + area) 0 (poolUsed area s a)
+  met-pool : (a : Arena) (area : ℕ) → runsBefore s a (size s a) < length (pool s a) → By (code 4 area) 0 (poolUsed area s a)
   unfolding poolUsed
   met-pool a area l =
-      cond-says (By (32 + area) 0) (used a) accepted (refused 4 area 0)
+      cond-says (By (code 4 area) 0) (used a) accepted (refused 4 area 0)
       (λ t. let e = eqb→eq (runsBefore s a (size s a)) (length (pool s a)) t in absurd (omega arith)) (λ f. inr (refl, zero-le))
 
   -- every fault
-  met : {n a h : ℕ} → Fault s maps n a h → By (n * 8 + a) h (check s maps)
-  unfolding check1 check2 check3 check5 scanAreas scanRecords scanMentions areaNumber mention
-  met (ragged {a} l n) = by (8 + a) 0 0 (areas-by 1 whole 8 a l (λ t. n (eqb→eq (lengthOf s a % getD widths a 1) 0 t)))
-  met (crowded {a} l q) = by (16 + a) 0 1 (areas-by 2 limited 8 a l (leb-fails q))
-  met (shortMap {a} l q) = by (24 + a) 0 2 (areas-by 3 mapped 5 a l (leb-fails q))
+  met : {n a h : ℕ} → Fault s maps n a h → By (code n a) h (check s maps)
+  unfolding under turn position turns check1 check2 check3 check5 scanAreas scanRecords scanMentions areaNumber mention
+  met (ragged {a} l n) = by 1 tt (code 1 a) 0 (areas-by 1 whole 8 a l (λ t. n (eqb→eq (lengthOf s a % getD widths a 1) 0 t)))
+  met (crowded {a} l q) = by2 (code 2 a) 0 (areas-by 2 limited 8 a l (leb-fails q))
+  met (shortMap {a} l q) = by 3 tt (code 3 a) 0 (areas-by 3 mapped 5 a l (leb-fails q))
   met (misshapen a {h} k l w m) = met4 a h l (fails4 s a h k w m)
-  met (longMembers q) = by4 37 0 5 (met-pool types 5 q)
-  met (longComponents q) = by4 38 0 6 (met-pool expressions 6 q)
-  met (mentionArea {h} l q) = by4 39 h 7 (records-by 4 7 known (mentionCount s) h l (ltb-fails q))
-  met (outOfScope {h} l e) = by 44 h 4 (records-by 5 4 (ofModule s expressions) (size s expressions) h l (fails5 s h e))
+  met (longMembers q) = by4 (code 4 5) 0 5 (met-pool types 5 q)
+  met (longComponents q) = by4 (code 4 6) 0 6 (met-pool expressions 6 q)
+  met (mentionArea {h} l q) = by4 (code 4 7) h 7 (records-by 4 7 known (mentionCount s) h l (ltb-fails q))
+  met (outOfScope {h} l e) = by 5 tt (code 5 4) h (records-by 5 4 (ofModule s expressions) (size s expressions) h l (fails5 s h e))
   met (missing a {h} k l w m) = met6 a h l (λ f. fails6 s a h f k w m)
   met (missingInRun a {h} i l w m) = met6 a h l (λ f. fails6-run s a h f i w m)
-  met (missingMention {h} l m) = late 55 h (lit≤ tt) (λ f. by6 55 h 5 (records-by 6 7 mentioned (mentionCount s) h l (absent-fails s f m)))
+  met (missingMention {h} l m) =
+      late 6 7 h two-six (λ f. by6 (code 6 7) h 5 (records-by 6 7 mentioned (mentionCount s) h l (absent-fails s f m)))
   met (misplaced a {h} y l d m) = met7 a h l (misplaced-plain s m) (fails7 s a h y d m)
 
   -- ---- the two orders of places
 
-  -- there are 8 areas
-  area-low : {n a h : ℕ} → Fault s maps n a h → a < 8
-  area-low (ragged l n) = l
-  area-low (crowded l q) = l
-  area-low (shortMap l q) = le-trans l (lit≤ tt)
-  area-low (misshapen a k l w m) = counted a
-  area-low (longMembers q) = lit< tt
-  area-low (longComponents q) = lit< tt
-  area-low (mentionArea l q) = lit< tt
-  area-low (outOfScope l e) = lit< tt
-  area-low (missing a k l w m) = counted a
-  area-low (missingInRun a i l w m) = counted a
-  area-low (missingMention l m) = lit< tt
-  area-low (misplaced a y l d m) = counted a
+  -- the number is one of the list, and has room for the area
+  placed : {n a h : ℕ} → Fault s maps n a h → Listed n × (a < room)
+  unfolding turn position turns
+  placed (ragged l n) = (tt, le-trans l (lit≤ tt))
+  placed (crowded l q) = (tt, le-trans l (lit≤ tt))
+  placed (shortMap l q) = (tt, le-trans l (lit≤ tt))
+  placed (misshapen a k l w m) = (tt, counted a)
+  placed (longMembers q) = (tt, lit< tt)
+  placed (longComponents q) = (tt, lit< tt)
+  placed (mentionArea l q) = (tt, lit< tt)
+  placed (outOfScope l e) = (tt, lit< tt)
+  placed (missing a k l w m) = (tt, counted a)
+  placed (missingInRun a i l w m) = (tt, counted a)
+  placed (missingMention l m) = (tt, lit< tt)
+  placed (misplaced a y l d m) = (tt, counted a)
 
 -- so that number and area as one number are in the order of the two
-early-first : (n a h n′ a′ h′ : ℕ) → a < 8 → a′ < 8 → Early (n * 8 + a) h (n′ * 8 + a′) h′ → NoLater n a h n′ a′ h′
-early-first n a h n′ a′ h′ l l′ (inl q) = go (decLt n n′)
+early-first : (n a h n′ a′ h′ : ℕ) → (turn n ≡ turn n′ → n ≡ n′) → a < room → a′ < room → Early (code n a) h (code n′ a′) h′
+    → NoLater n a h n′ a′ h′
+early-first n a h n′ a′ h′ e l l′ (inl q) = go (decLt (turn n) (turn n′))
   where
-    go : Dec (n < n′) → NoLater n a h n′ a′ h′
+    go : Dec (turn n < turn n′) → NoLater n a h n′ a′ h′
     go (yes r) = inl r
-    go (no r) = inr (omega arith, inl (omega arith))
-early-first n a h n′ a′ h′ l l′ (inr q) = inr (omega arith, inr (omega arith, q .1))
+    go (no r) = inr (e (omega arith), inl (omega arith))
+early-first n a h n′ a′ h′ e l l′ (inr q) = inr (e (omega arith), inr (omega arith, q .1))
 
 -- a verdict that reports a fault, and is as early as each, is called for
-called : (s : Areas) (maps : List ℕ) (v : Verdict) → Found s maps v → ((n a h : ℕ) → Fault s maps n a h → By (n * 8 + a) h v)
+called : (s : Areas) (maps : List ℕ) (v : Verdict) → Found s maps v → ((n a h : ℕ) → Fault s maps n a h → By (code n a) h v)
     → CalledFor s maps v
 called s maps accepted f b = b
 called s maps (refused n a h) f b =
-    (f, λ n′ a′ h′ g. early-first n a h n′ a′ h′ (area-low s maps f) (area-low s maps g) (b n′ a′ h′ g))
+    let p = placed s maps f in (
+      f,
+      λ n′ a′ h′ g.
+          let q = placed s maps g in
+          early-first n a h n′ a′ h′ (turn-once n n′ (p .0) (q .0)) (p .1) (q .1) (b n′ a′ h′ g),
+    )
 
 -- ---- the theorem
 
--- the check answers what the faults call for: accepted exactly where nothing is a fault, otherwise the least fault by number, then area, then record
+-- the check answers what the faults call for: accepted exactly where nothing is a fault, otherwise the least fault by its number's turn, then area, then record
 pub exactly : (s : Areas) (maps : List ℕ) → CalledFor s maps (check s maps)
 exactly s maps = called s maps (check s maps) (found s maps) (λ n a h f. met s maps f)
 

@@ -12,19 +12,19 @@ use lib.ListN.{length, getD, take}
 use lib.Seq.{ext-getD, take-add, take-length}
 use borrow.Author.Tests.{eqb-true}
 use Rattle.definitions.specs.Lists.{all, always, gather, total}
-use Rattle.definitions.specs.Areas.{Areas, Arena, Elem, N, Words, allWords, at, constants, expressions, globals, lengthOf, mentionCount, mentionWord, numbered, overrides, pool, size, types, width, widths, word, words}
+use Rattle.definitions.specs.Areas.{Areas, Arena, Elem, N, Words, allWords, at, constants, expressions, globals, lengthOf, mentionCount, mentionWidth, mentionWord, numbered, overrides, pool, size, types, width, widths, word, words}
 use Rattle.definitions.specs.Slots.{Slot, below, count, free, layout, may, must, start, unused}
 use Rattle.definitions.specs.References.{run, span}
 use Rattle.definitions.specs.Roots.{mention}
-use Rattle.definitions.specs.Sweep.{has, kept}
+use Rattle.definitions.specs.Sweep.{has, kept, keptFrom}
 use Rattle.definitions.specs.Refusals.{every, held, heldAt, check, inside as test, passes, runsBefore, shaped}
-use Rattle.definitions.specs.Numbering.{isKept, newHandle, rank}
+use Rattle.definitions.specs.Numbering.{isKept, moved, newHandle, rank}
 use Rattle.definitions.specs.Outcome.{Maps, lengths, outcome, outcomeOf}
 use Rattle.definitions.specs.Records.{adjusted, areasAfter, keptAreas, padded, mentionAfter, runsUpTo, startAfter}
 use Rattle.definitions.proofs.ListLaws.{total-step}
 use Rattle.definitions.proofs.Least.{_∈_, and-left, and-right, Within, Closed}
 use Rattle.definitions.proofs.Accepted.{Sound}
-use Rattle.definitions.proofs.Kept.{Inside, inside-lt, lt-inside, inside-closed, OrderedOn, kept-inside}
+use Rattle.definitions.proofs.Kept.{Inside, inside-lt, lt-inside, inside-closed, OrderedOn, from-inside}
 use Rattle.definitions.proofs.Places.{new-kept}
 use Rattle.definitions.proofs.Reading.{after, width-pos, word-after, length-after, length-layout, shaped-slot, every-at, run-there}
 use Rattle.definitions.proofs.AcceptedAfter.{mentionWord-after, mentions-length}
@@ -37,12 +37,12 @@ multiple n w t =
     let q : n / w * w + n % w ≡ n = div-add-mod' n w in
     sym q ∙ ap (λ r. n / w * w + r) e ∙ add-zero (n / w * w)
 
-count-twice : (s : Areas) → Sound s → length (s .mentions) ≡ mentionCount s * 2
+count-twice : (s : Areas) → Sound s → length (s .mentions) ≡ mentionCount s * mentionWidth
 unfolding mentionCount lengthOf allWords widths
-count-twice s c = multiple (length (s .mentions)) 2 (c .whole 7 (lit< tt))
+count-twice s c = multiple (length (s .mentions)) mentionWidth (c .whole 7 (lit< tt))
 
 mention-at : (s : Areas) (m : List Elem) (h k : ℕ) → mentionWord (after s m) h k ≡ mentionWord s h k
-    → getD (after s m .mentions) (h * 2 + k) 0 ≡ getD (s .mentions) (h * 2 + k) 0
+    → getD (after s m .mentions) (h * mentionWidth + k) 0 ≡ getD (s .mentions) (h * mentionWidth + k) 0
 unfolding mentionWord
 mention-at s m h k e = e
 
@@ -107,12 +107,12 @@ module _ (s : Areas) (m : List Elem) (c : Sound s) (ins : Within m (Inside s)) (
   words-at a h k l b = unfold word in (word-all a h k l b)
 
   words-length : (a : Arena) → length (words s a) ≡ size s a * width a
-  unfolding size words width lengthOf allWords widths
-  words-length types = multiple (length (s .types)) 5 (c .whole 0 (lit< tt))
-  words-length constants = multiple (length (s .constants)) 4 (c .whole 1 (lit< tt))
-  words-length overrides = multiple (length (s .overrides)) 4 (c .whole 2 (lit< tt))
-  words-length globals = multiple (length (s .globals)) 3 (c .whole 3 (lit< tt))
-  words-length expressions = multiple (length (s .expressions)) 11 (c .whole 4 (lit< tt))
+  unfolding size words lengthOf allWords widths
+  words-length types = multiple (length (s .types)) (width types) (c .whole 0 (lit< tt))
+  words-length constants = multiple (length (s .constants)) (width constants) (c .whole 1 (lit< tt))
+  words-length overrides = multiple (length (s .overrides)) (width overrides) (c .whole 2 (lit< tt))
+  words-length globals = multiple (length (s .globals)) (width globals) (c .whole 3 (lit< tt))
+  words-length expressions = multiple (length (s .expressions)) (width expressions) (c .whole 4 (lit< tt))
 
   pub words-all : (a : Arena) → words (after s m) a ≡ words s a
   words-all a = ext-getD 0 (words (after s m) a) (words s a) same-length (λ i l. at-index i (subst (λ n. i < n) (same-length ∙ words-length a) l))
@@ -156,7 +156,7 @@ module _ (s : Areas) (m : List Elem) (c : Sound s) (ins : Within m (Inside s)) (
 
   -- ---- the mentions
 
-  mention-words : (h k : ℕ) → h < mentionCount s → k < 2 → getD (mentionAfter s m h) k 0 ≡ mentionWord s h k
+  mention-words : (h k : ℕ) → h < mentionCount s → k < mentionWidth → getD (mentionAfter s m h) k 0 ≡ mentionWord s h k
   unfolding mentionAfter
   mention-words h zero l b = refl
   mention-words h (suc zero) l b = new-all (numbered (mentionWord s h 0)) (mentionWord s h 1) (inside-lt s (numbered (mentionWord s h 0)) (mentionWord s h 1) (held-mention h l))
@@ -171,11 +171,11 @@ module _ (s : Areas) (m : List Elem) (c : Sound s) (ins : Within m (Inside s)) (
       same-length : length (after s m .mentions) ≡ length (s .mentions)
       same-length = mentions-length s m c ins clo ∙ sym (count-twice s c)
 
-      at-index : (i : ℕ) → i < mentionCount s * 2 → getD (after s m .mentions) i 0 ≡ getD (s .mentions) i 0
+      at-index : (i : ℕ) → i < mentionCount s * mentionWidth → getD (after s m .mentions) i 0 ≡ getD (s .mentions) i 0
       at-index i l =
-          subst (λ j. getD (after s m .mentions) j 0 ≡ getD (s .mentions) j 0) (div-add-mod' i 2)
-          (mention-at s m (i / 2) (i % 2) (mentionWord-after s m c ins clo (i / 2) (i % 2) (div-lt-iff-lt-mul (lit< tt) .1 l) (mod-lt i (lit< tt))
-          ∙ mention-words (i / 2) (i % 2) (div-lt-iff-lt-mul (lit< tt) .1 l) (mod-lt i (lit< tt))))
+          subst (λ j. getD (after s m .mentions) j 0 ≡ getD (s .mentions) j 0) (div-add-mod' i mentionWidth)
+          (mention-at s m (i / mentionWidth) (i % mentionWidth) (mentionWord-after s m c ins clo (i / mentionWidth) (i % mentionWidth) (div-lt-iff-lt-mul (lit< tt) .1 l) (mod-lt i (lit< tt))
+          ∙ mention-words (i / mentionWidth) (i % mentionWidth) (div-lt-iff-lt-mul (lit< tt) .1 l) (mod-lt i (lit< tt))))
 
   -- nothing changes
   pub whole : keptAreas s m ≡ s
@@ -192,12 +192,15 @@ module _ (s : Areas) (m : List Elem) (c : Sound s) (ins : Within m (Inside s)) (
         mentions = mentions-all i;
       }
 
--- the second pass, with the same flag, changes no record and no mention
-pub second-pass : (s : Areas) (c : Sound s) (keep : Bool) → OrderedOn s (kept s keep)
-    → keptAreas (keptAreas s (kept s keep)) (kept (keptAreas s (kept s keep)) keep) ≡ keptAreas s (kept s keep)
-second-pass s c keep o =
-    whole (keptAreas s (kept s keep)) (kept (keptAreas s (kept s keep)) keep) (accepted-again s c keep o .sound)
-    (kept-inside (keptAreas s (kept s keep)) (accepted-again s c keep o .sound) keep) (drops-nothing s c keep o)
+-- the second pass changes no record and no mention
+pub second-pass : (s : Areas) (c : Sound s) (rs : List Elem) (w : Within rs (Inside s)) (o : OrderedOn s (keptFrom s rs))
+    (mentioned : (h : ℕ) → h < mentionCount s → mention s h ∈ keptFrom s rs)
+    (rs′ : List Elem) → Within rs′ (Inside (after s (keptFrom s rs))) → ((x : Elem) → x ∈ rs → moved (keptFrom s rs) x ∈ rs′)
+    → keptAreas (after s (keptFrom s rs)) (keptFrom (after s (keptFrom s rs)) rs′) ≡ after s (keptFrom s rs)
+second-pass s c rs w o mentioned rs′ w′ again =
+    let sound = accepted-again s c rs w o mentioned .sound in
+    whole (after s (keptFrom s rs)) (keptFrom (after s (keptFrom s rs)) rs′) sound (from-inside (after s (keptFrom s rs)) rs′ sound w′)
+    (drops-nothing s c rs w o mentioned rs′ w′ again)
 
 -- ---- and in the outcome no N is filled in
 
@@ -205,7 +208,8 @@ padded-self : (l : Words) → padded l l ≡ l
 unfolding padded
 padded-self l = let z : length l - length l ≡ 0 = omega arith in rw z (append-nil l)
 
-areas-self : (s : Areas) (m : List Elem) → keptAreas s m ≡ s → areasAfter s m ≡ s
+-- where what is kept is all, so are the areas after
+pub areas-self : (s : Areas) (m : List Elem) → keptAreas s m ≡ s → areasAfter s m ≡ s
 unfolding areasAfter
 areas-self s m e =
     rw e

@@ -3,17 +3,18 @@
 use mathlib.Core.Path.{_≡_, refl, sym, ap, subst, _∙_}
 use mathlib.Core.Bool.{Bool, true, false, _&&_, not, cond}
 use mathlib.Core.Logic.{_⊎_, inl, inr, ⊎-elim}
-use mathlib.Core.List.{List, [], _∷_}
+use mathlib.Core.List.{List, [], _∷_, map}
 use Prim.Native.Nat.{ℕ, zero, suc, _+_, _*_, _≤_, _<_, zero-le, suc-le-suc}
 use native.Mathlib.Nat.{add-zero, suc-add, add-suc, zero-add, zero-lt-suc, not-suc-le-zero, le-of-suc-le-suc, eq-or-lt-of-le}
 use native.Mathlib.Omega.{arith}
-use lib.Dec.{T, eqb, leb, ltb, not-T, ltb→lt, leb→le, nleb→lt, nltb→le, eqb-refl}
+use lib.Dec.{T, eqb, leb, ltb, not-T, eqb→eq, ltb→lt, leb→le, nleb→lt, nltb→le, eqb-refl}
 use lib.ListN.{length, getD}
 use Rattle.definitions.specs.Lists.{all}
 use Rattle.definitions.specs.Areas.{Arena, constants, eachArena, expressions, globals, areaNumber, overrides, types}
 use Rattle.definitions.specs.Slots.{Slot, free}
-use Rattle.definitions.specs.Refusals.{Verdict, accepted, every, firstOf, passes, refused, scan}
-use Rattle.definitions.proofs.Least.{and-left, and-right}
+use Rattle.definitions.specs.Refusals.{Verdict, accepted, every, firstOf, passes, refused, scan, turn}
+use Rattle.definitions.proofs.Least.{Each, and-left, and-right}
+use Rattle.definitions.proofs.Turns.{rising}
 
 -- ---- a test that fails
 
@@ -143,19 +144,31 @@ module _ (P : Verdict → Type 0) where
 
 -- ---- how early a verdict is
 
--- number and area make one number, 8 to a number: the first place comes no later than the second
+-- how many areas a number has room for, at least as many as there are
+abbrev pub room : ℕ
+room = 17
+
+-- number and area make one number, by the number's turn
+abbrev pub code : ℕ → ℕ → ℕ
+code n a = turn n * room + a
+
+-- such a number and a record: the first place comes no later than the second
 abbrev pub Early : ℕ → ℕ → ℕ → ℕ → Type 0
 Early k h k′ h′ = (k < k′) ⊎ ((k ≡ k′) × (h ≤ h′))
 
 -- refused, and no later than that place
 abbrev pub By : ℕ → ℕ → Verdict → Type 0
 By k h accepted = ⊥
-By k h (refused n a i) = Early (n * 8 + a) i k h
+By k h (refused n a i) = Early (code n a) i k h
 
 -- where it is refused, then from lo on and before hi
 abbrev pub Between : ℕ → ℕ → Verdict → Type 0
 Between lo hi accepted = lo ≤ hi
-Between lo hi (refused n a h) = (lo ≤ n * 8 + a) × (n * 8 + a < hi)
+Between lo hi (refused n a h) = (lo ≤ code n a) × (code n a < hi)
+
+-- where it is refused, then under that number
+abbrev pub Under : ℕ → Verdict → Type 0
+Under n = Between (code n 0) (code n room)
 
 -- lo comes no later than hi
 between-le : (lo hi : ℕ) (v : Verdict) → Between lo hi v → lo ≤ hi
@@ -196,32 +209,57 @@ first-by k h lo (refused n a j ∷ l) hi r zero b = b
 first-by k h lo (refused n a j ∷ l) hi r (suc i) b =
     go (firstOf l) (first-between (r .0) l hi (r .2)) (first-by k h (r .0) l hi (r .2) i b)
   where
-    go : (v : Verdict) → Between (r .0) hi v → By k h v → Early (n * 8 + a) j k h
+    go : (v : Verdict) → Between (r .0) hi v → By k h v → Early (code n a) j k h
     go accepted w q = absurd q
     go (refused m c x) w (inl q) = inl (omega arith)
     go (refused m c x) w (inr q) = inl (omega arith)
 
+-- ---- the numbers in turn
+
+-- where each number's verdict stands under it, those of a list of rising turns rise
+pub turns-rise : (f : ℕ → Verdict) (i : ℕ) (l : List ℕ) → T (rising i l) → Each (λ n. Under n (f n)) l
+    → Rising (i * room) (map f l) ((i + length l) * room)
+unfolding rising
+turns-rise f i [] t e = omega arith
+turns-rise f i (n ∷ l) t e =
+    let q : turn n ≡ i = eqb→eq (turn n) i (and-left (eqb (turn n) i) (rising (suc i) l) t) in
+    let r = turns-rise f (suc i) l (and-right (eqb (turn n) i) (rising (suc i) l) t) (e .1) in
+    (suc i * room, own q (f n) (e .0), subst (Rising (suc i * room) (map f l)) (omega arith) r)
+  where
+    own : turn n ≡ i → (v : Verdict) → Under n v → Between (i * room) (suc i * room) v
+    own q accepted b = omega arith
+    own q (refused m a h) b = (omega arith, omega arith)
+
+-- where each says it, the first says it
+pub each-says : (P : Verdict → Type 0) (f : ℕ → Verdict) (l : List ℕ) → P accepted → Each (λ n. P (f n)) l → P (firstOf (map f l))
+each-says P f l p e = first-says P (map f l) p (say l e)
+  where
+    say : (l : List ℕ) → Each (λ n. P (f n)) l → EachSays P (map f l)
+    say [] e = tt
+    say (n ∷ l) e = (e .0, λ t. say l (e .1))
+
 -- ---- the scans of a number
 
 module _ (nr ar : ℕ) (ok : ℕ → Bool) (n : ℕ) where
-  -- the records of an area: where the verdict stands
-  pub records-between : (lo hi : ℕ) → lo ≤ nr * 8 + ar → nr * 8 + ar < hi → Between lo hi (scan ok (refused nr ar) 0 n)
-  records-between lo hi l u = scan-says (Between lo hi) ok (refused nr ar) n (omega arith) (λ j b f. (l, u))
+  -- the records of an area: where the verdict stands, among areas lo and on and before hi
+  pub records-between : (lo hi : ℕ) → lo ≤ ar → ar < hi → Between (code nr lo) (code nr hi) (scan ok (refused nr ar) 0 n)
+  records-between lo hi l u =
+      scan-says (Between (code nr lo) (code nr hi)) ok (refused nr ar) n (omega arith) (λ j b f. (omega arith, omega arith))
 
   -- and how early it is where one fails
-  pub records-by : (h : ℕ) → h < n → (T (ok h) → ⊥) → By (nr * 8 + ar) h (scan ok (refused nr ar) 0 n)
-  records-by h l f = scan-stops (By (nr * 8 + ar) h) ok (refused nr ar) n h l f (λ k b. inr (refl, b))
+  pub records-by : (h : ℕ) → h < n → (T (ok h) → ⊥) → By (code nr ar) h (scan ok (refused nr ar) 0 n)
+  records-by h l f = scan-stops (By (code nr ar) h) ok (refused nr ar) n h l f (λ k b. inr (refl, b))
 
 module _ (nr : ℕ) (ok : ℕ → Bool) (n : ℕ) where
   -- the areas: where the verdict stands
-  pub areas-between : (hi : ℕ) → nr * 8 + n ≤ hi → Between (nr * 8) hi (scan ok (λ a. refused nr a 0) 0 n)
-  areas-between hi u = scan-says (Between (nr * 8) hi) ok (λ a. refused nr a 0) n (omega arith) (λ a b f. (omega arith, omega arith))
+  pub areas-under : n ≤ room → Under nr (scan ok (λ a. refused nr a 0) 0 n)
+  areas-under u = scan-says (Under nr) ok (λ a. refused nr a 0) n (omega arith) (λ a b f. (omega arith, omega arith))
 
   -- and how early it is where one fails
-  pub areas-by : (a : ℕ) → a < n → (T (ok a) → ⊥) → By (nr * 8 + a) 0 (scan ok (λ a. refused nr a 0) 0 n)
+  pub areas-by : (a : ℕ) → a < n → (T (ok a) → ⊥) → By (code nr a) 0 (scan ok (λ a. refused nr a 0) 0 n)
   areas-by a l f =
-      scan-stops (By (nr * 8 + a) 0) ok (λ a. refused nr a 0) n a l f
-      (λ k b. ⊎-elim (λ e. inr (ap (λ j. nr * 8 + j) e, zero-le)) (λ q. inl (omega arith)) (eq-or-lt-of-le b))
+      scan-stops (By (code nr a) 0) ok (λ a. refused nr a 0) n a l f
+      (λ k b. ⊎-elim (λ e. inr (ap (code nr) e, zero-le)) (λ q. inl (omega arith)) (eq-or-lt-of-le b))
 
 -- a verdict for each arena, and more
 module _ (f : Arena → Verdict) (l : List Verdict) where
@@ -235,10 +273,11 @@ module _ (f : Arena → Verdict) (l : List Verdict) where
   arenas-at expressions = refl
 
   -- they rise where each stands under its area, and more after them
-  pub arenas-rise : (k hi : ℕ) → ((a : Arena) → Between (k + areaNumber a) (k + suc (areaNumber a)) (f a))
-      → Rising (k + 5) l hi → Rising (k + 0) (eachArena f l) hi
+  pub arenas-rise : (n hi : ℕ) → ((a : Arena) → Between (code n (areaNumber a)) (code n (suc (areaNumber a))) (f a))
+      → Rising (code n 5) l hi → Rising (code n 0) (eachArena f l) hi
   unfolding areaNumber
-  arenas-rise k hi b r = (k + 1, b types, (k + 2, b constants, (k + 3, b overrides, (k + 4, b globals, (k + 5, b expressions, r)))))
+  arenas-rise n hi b r =
+      (code n 1, b types, (code n 2, b constants, (code n 3, b overrides, (code n 4, b globals, (code n 5, b expressions, r)))))
 
   -- they all say what each says
   pub arenas-say : (P : Verdict → Type 0) → ((a : Arena) → P (f a)) → (((a : Arena) → T (passes (f a))) → EachSays P l)

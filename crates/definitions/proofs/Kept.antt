@@ -1,4 +1,4 @@
--- Demand 3, of the module's own elements: what the sweep keeps of an accepted module is the least set that holds the roots and all that its members refer to.
+-- Demand 3, of the module's own elements: what the sweep keeps of an accepted module, from any roots, is the least set that holds them and all that its members refer to.
 -- Assumes nothing.
 use mathlib.Core.Path.{_≡_, refl, sym, subst}
 use mathlib.Core.Bool.{Bool, true, false, cond}
@@ -8,17 +8,16 @@ use Prim.Native.Nat.{ℕ, zero, suc, _+_, _-_, _≤_, _<_}
 use native.Mathlib.Nat.{le-refl, le-trans}
 use native.Mathlib.Omega.{arith}
 use lib.Dec.{T, eqb, ltb→lt, leb→le, lt→ltb}
-use lib.ListN.{getD}
 use borrow.Author.Tests.{eqb-true, eqb-false, eq-eqb, ne-eqb}
 use Rattle.definitions.specs.Lists.{all, always, countUp, select}
 use Rattle.definitions.specs.Areas.{Areas, Arena, Elem, N, Words, at, constants, expressions, globals, mentionCount, overrides, size, types, word}
-use Rattle.definitions.specs.Slots.{body, typeBody, exprBody, Slot, below, count, fill, free, layout, may, must, slots, start, typeSlots, unused}
+use Rattle.definitions.specs.Slots.{body, typeBody, exprBody, Slot, below, count, fill, free, layout, may, must, slots, start, tail, typeSlots, unused}
 use Rattle.definitions.specs.References.{hasRun, namedBy, namedFrom, references, run, span}
 use Rattle.definitions.specs.Roots.{commonRoots, isNamed, mention, moreRoots, namedOverride, rootConstant, roots, those}
 use Rattle.definitions.specs.Order.{behind, later, pastDep, onePast, order, sizedBy, wellOrdered, withBehind}
-use Rattle.definitions.specs.Sweep.{kept, sweep, visit}
+use Rattle.definitions.specs.Sweep.{kept, keptFrom, sweep, visit}
 use Rattle.definitions.specs.Refusals.{every, held, heldAt, inside}
-use Rattle.definitions.proofs.Least.{_∈_, and-left, and-right, cons-cases, none-in, append-cases, Within, Each, map-within, Sorted, touched-self, touched-behind, touched-cases, reached, visit-cases, visit-old, visit-new, sweep-old, Closed, touched-within, sweep-within, sweep-closed}
+use Rattle.definitions.proofs.Least.{_∈_, and-left, and-right, cons-cases, none-in, append-cases, Within, Each, map-within, Sorted, touched-self, touched-behind, touched-cases, reached, visit-cases, visit-old, visit-new, sweep-old, Closed, touched-within, sweep-within, sweep-closed, touched-more, sweep-more}
 use Rattle.definitions.proofs.Accepted.{Sound, Accepted}
 use Rattle.definitions.proofs.Tandem.{Among, visits-among, Before, asym, visits-sorted, visits-types, visits-expressions}
 
@@ -70,6 +69,11 @@ namedIn-within P f k (l ∷ ls) e y h =
     ⊎-elim (λ i. named-within P l (f k) (e .0) y i) (λ i. namedIn-within P f (suc k) ls (e .1) y i)
     (append-cases y (namedBy l (f k)) (namedFrom f (suc k) ls) h)
 
+-- a tail names nothing
+tail-holds : (P : Elem → Type 0) (f : ℕ → ℕ) (k : ℕ) (ls : List Slot) → EachSlot P f k ls → EachSlot P f k (ls ++ tail)
+tail-holds P f k [] e = (tt, tt)
+tail-holds P f k (l ∷ ls) e = (e .0, tail-holds P f (suc k) ls (e .1))
+
 pub append-within : (P : Elem → Type 0) (l m : List Elem) → Within l P → Within m P → Within (l ++ m) P
 append-within P l m a b y h = ⊎-elim (λ i. a y i) (λ i. b y i) (append-cases y l m h)
 
@@ -80,15 +84,15 @@ module _ (s : Areas) where
   behind-plain (at types h) y i = absurd (none-in y i)
   behind-plain (at constants h) y i =
       append-within Plain (namedFrom (word s constants h) 0 (layout s constants h)) []
-      (namedIn-within Plain (word s constants h) 0 (layout s constants h) (tt, (tt, (tt, (tt, tt)))))
+      (namedIn-within Plain (word s constants h) 0 (layout s constants h) (tail-holds Plain (word s constants h) 0 (body constants (word s constants h)) (tt, (tt, (tt, tt)))))
       (λ z j. absurd (none-in z j)) y i
   behind-plain (at overrides h) y i =
       append-within Plain (namedFrom (word s overrides h) 0 (layout s overrides h)) []
-      (namedIn-within Plain (word s overrides h) 0 (layout s overrides h) (tt, (tt, (λ _. tt, (tt, tt)))))
+      (namedIn-within Plain (word s overrides h) 0 (layout s overrides h) (tail-holds Plain (word s overrides h) 0 (body overrides (word s overrides h)) (tt, (tt, (λ _. tt, tt)))))
       (λ z j. absurd (none-in z j)) y i
   behind-plain (at globals h) y i =
       append-within Plain (namedFrom (word s globals h) 0 (layout s globals h)) []
-      (namedIn-within Plain (word s globals h) 0 (layout s globals h) (tt, (λ _. tt, (tt, tt))))
+      (namedIn-within Plain (word s globals h) 0 (layout s globals h) (tail-holds Plain (word s globals h) 0 (body globals (word s globals h)) (tt, (λ _. tt, tt))))
       (λ z j. absurd (none-in z j)) y i
   behind-plain (at expressions h) y i = absurd (none-in y i)
 
@@ -209,7 +213,7 @@ module _ (s : Areas) where
   more-inside true = append-within Inside _ _ (append-within Inside _ _ (those-inside globals always) (those-inside overrides (namedOverride s))) (those-inside types (isNamed s))
   more-inside false = none-within Inside
 
-  roots-inside : Sound s → (keep : Bool) → Within (roots s keep) Inside
+  pub roots-inside : Sound s → (keep : Bool) → Within (roots s keep) Inside
   unfolding roots commonRoots
   roots-inside c keep =
       append-within Inside _ _
@@ -250,14 +254,13 @@ module _ (s : Areas) where
   TypeRef t (at globals u) = ⊥
   TypeRef t (at expressions u) = ⊥
 
-  type-slots : (t k : ℕ) → word s types t 0 ≡ k
-      → EachSlot (TypeRef t) (word s types t) 0 (below 4 ∷ below 4 ∷ fill 2 (getD typeSlots k []) ++ (free ∷ []))
-  unfolding typeSlots fill
-  type-slots t zero e = (tt, (tt, (tt, (tt, (tt, tt)))))
-  type-slots t (suc zero) e = (tt, (tt, (tt, (tt, (tt, tt)))))
-  type-slots t (suc (suc zero)) e = (tt, (tt, (tt, ((e, refl), (tt, tt)))))
-  type-slots t (suc (suc (suc zero))) e = (tt, (tt, (tt, (tt, (tt, tt)))))
-  type-slots t (suc (suc (suc (suc k)))) e = (tt, (tt, (tt, (tt, (tt, tt)))))
+  type-slots : (t k : ℕ) → word s types t 0 ≡ k → EachSlot (TypeRef t) (word s types t) 0 (typeBody k)
+  unfolding typeBody typeSlots fill
+  type-slots t zero e = (tt, (tt, (tt, (tt, tt))))
+  type-slots t (suc zero) e = (tt, (tt, (tt, (tt, tt))))
+  type-slots t (suc (suc zero)) e = (tt, (tt, (tt, ((e, refl), tt))))
+  type-slots t (suc (suc (suc zero))) e = (tt, (tt, (tt, (tt, tt))))
+  type-slots t (suc (suc (suc (suc k)))) e = (tt, (tt, (tt, (tt, tt))))
 
   types-within : (t : ℕ) (ws : Words) → Within (map (at types) ws) (TypeRef t)
   types-within t [] y h = absurd (none-in y h)
@@ -265,10 +268,10 @@ module _ (s : Areas) where
       ⊎-elim (λ e. subst (TypeRef t) (sym e) tt) (λ i. types-within t ws y i) (cons-cases y (at types w) (map (at types) ws) h)
 
   type-refs : (t : ℕ) → Within (references s (at types t)) (TypeRef t)
-  unfolding references layout slots body typeBody exprBody
+  unfolding references layout slots body
   type-refs t =
       append-within (TypeRef t) _ (map (at types) (run s types t))
-      (namedIn-within (TypeRef t) (word s types t) 0 _ (type-slots t (word s types t 0) refl))
+      (namedIn-within (TypeRef t) (word s types t) 0 _ (tail-holds (TypeRef t) (word s types t) 0 (typeBody (word s types t 0)) (type-slots t (word s types t 0) refl)))
       (types-within t (run s types t))
 
   abbrev InitRef : ℕ → Elem → Type 0
@@ -282,7 +285,7 @@ module _ (s : Areas) where
   unfolding behind references layout slots run span hasRun body typeBody exprBody
   override-refs o =
       append-within (InitRef o) (namedFrom (word s overrides o) 0 (layout s overrides o)) []
-      (namedIn-within (InitRef o) (word s overrides o) 0 (layout s overrides o) (tt, (tt, (λ n. (refl, n), (tt, tt)))))
+      (namedIn-within (InitRef o) (word s overrides o) 0 (layout s overrides o) (tail-holds (InitRef o) (word s overrides o) 0 (body overrides (word s overrides o)) (tt, (tt, (λ n. (refl, n), tt)))))
       (none-within (InitRef o))
 
   pub sized-past : (t : ℕ) → sizedBy s t ≤ pastDep s t
@@ -354,38 +357,48 @@ module _ (s : Areas) where
   unfolding order
   order-sorted = visits-sorted s (size s types) (size s expressions)
 
-  -- ---- demand 3: the smallest set
+  -- ---- demand 3, from any roots: the smallest set
 
-  pub kept-roots : (keep : Bool) → Within (roots s keep) (λ x. x ∈ kept s keep)
-  unfolding kept
-  kept-roots keep x h = sweep-old s (order s) (withBehind s (roots s keep)) x (touched-self s x (roots s keep) h)
+  module _ (rs : List Elem) where
+    -- it holds the roots
+    pub from-roots : Within rs (λ x. x ∈ keptFrom s rs)
+    unfolding keptFrom
+    from-roots x h = sweep-old s (order s) (withBehind s rs) x (touched-self s x rs h)
 
+    -- and lies inside every closed set that does
+    pub from-least : (S : Elem → Type 0) → Closed s S → Within rs S → Within (keptFrom s rs) S
+    unfolding keptFrom
+    from-least S closed w = sweep-within s S closed (order s) (withBehind s rs) (touched-within s S closed rs w)
+
+    -- as the module is
+    pub from-inside : Sound s → Within rs Inside → Within (keptFrom s rs) Inside
+    from-inside c w = from-least Inside (inside-closed c) w
+
+    from-solid : Solid (keptFrom s rs)
+    unfolding keptFrom
+    from-solid = sweep-solid (order s) (withBehind s rs) (touched-solid rs)
+
+    module _ (c : Sound s) (w : Within rs Inside) (o : OrderedOn (keptFrom s rs)) where
+      from-visited : (x y : Elem) → Plain x → x ∈ keptFrom s rs → y ∈ references s x → y ∈ keptFrom s rs
+      unfolding keptFrom
+      from-visited x y p h r =
+          sweep-closed s (λ z. z ∈ keptFrom s rs) Plain (Before s) (asym s) (ordered (keptFrom s rs) o) (order s) (withBehind s rs) (λ z i. i) order-plain order-sorted
+          x y (order-all x p (from-inside c w x h)) h (touched-self s y (references s x) r)
+
+      -- with all that its members refer to
+      pub from-closed : Closed s (λ x. x ∈ keptFrom s rs)
+      unfolding behind
+      from-closed (at types h) y i r = from-visited (at types h) y tt i r
+      from-closed (at constants h) y i r = from-solid (at constants h) y i r
+      from-closed (at overrides h) y i r = from-solid (at overrides h) y i r
+      from-closed (at globals h) y i r = from-solid (at globals h) y i r
+      from-closed (at expressions h) y i r = from-visited (at expressions h) y tt i r
+
+  -- more roots keep no less
+  pub from-more : (rs rs′ : List Elem) → Within rs (λ x. x ∈ rs′) → Within (keptFrom s rs) (λ x. x ∈ keptFrom s rs′)
+  unfolding keptFrom
+  from-more rs rs′ w = sweep-more s (order s) (withBehind s rs) (withBehind s rs′) (touched-more s rs rs′ w)
+
+  -- from a module's own roots
   pub kept-inside : Sound s → (keep : Bool) → Within (kept s keep) Inside
-  unfolding kept
-  kept-inside c keep =
-      sweep-within s Inside (inside-closed c) (order s) (withBehind s (roots s keep))
-      (touched-within s Inside (inside-closed c) (roots s keep) (roots-inside c keep))
-
-  kept-solid : (keep : Bool) → Solid (kept s keep)
-  unfolding kept
-  kept-solid keep = sweep-solid (order s) (withBehind s (roots s keep)) (touched-solid (roots s keep))
-
-  module _ (c : Sound s) (keep : Bool) (o : OrderedOn (kept s keep)) where
-    kept-visited : (x y : Elem) → Plain x → x ∈ kept s keep → y ∈ references s x → y ∈ kept s keep
-    unfolding kept
-    kept-visited x y p h r =
-        sweep-closed s (λ z. z ∈ kept s keep) Plain (Before s) (asym s) (ordered (kept s keep) o) (order s) (withBehind s (roots s keep)) (λ z i. i) order-plain order-sorted
-        x y (order-all x p (kept-inside c keep x h)) h (touched-self s y (references s x) r)
-
-    pub kept-closed : Closed s (λ x. x ∈ kept s keep)
-    unfolding behind
-    kept-closed (at types h) y i r = kept-visited (at types h) y tt i r
-    kept-closed (at constants h) y i r = kept-solid keep (at constants h) y i r
-    kept-closed (at overrides h) y i r = kept-solid keep (at overrides h) y i r
-    kept-closed (at globals h) y i r = kept-solid keep (at globals h) y i r
-    kept-closed (at expressions h) y i r = kept-visited (at expressions h) y tt i r
-
-  pub kept-least : (keep : Bool) (S : Elem → Type 0) → Closed s S → Within (roots s keep) S → Within (kept s keep) S
-  unfolding kept
-  kept-least keep S closed w =
-      sweep-within s S closed (order s) (withBehind s (roots s keep)) (touched-within s S closed (roots s keep) w)
+  kept-inside c keep = from-inside (roots s keep) c (roots-inside c keep)

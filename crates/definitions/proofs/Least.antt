@@ -208,6 +208,22 @@ module _ (s : Areas) where
   sweep-old [] m y h = h
   sweep-old (x ∷ l) m y h = sweep-old l (visit s m x) y (visit-old m x y h)
 
+  -- ---- more to start from, more in the end
+
+  pub touched-more : (xs ys : List Elem) → Within xs (λ x. x ∈ ys) → Within (withBehind s xs) (λ x. x ∈ withBehind s ys)
+  touched-more xs ys w y h =
+      ⊎-elim (λ i. touched-self y ys (w y i)) (λ b. touched-behind (b .front) y ys (w (b .front) (b .front-in)) (b .is-behind)) (touched-cases y xs h)
+
+  visit-more : (m n : List Elem) (x : Elem) → Within m (λ y. y ∈ n) → Within (visit s m x) (λ y. y ∈ visit s n x)
+  visit-more m n x w y h = ⊎-elim (λ o. visit-old n x y (w y o)) (λ r. visit-new n x y (w x (r .0)) (r .1)) (visit-cases m x y h)
+
+  pub sweep-more : (l m n : List Elem) → Within m (λ y. y ∈ n) → Within (sweep s l m) (λ y. y ∈ sweep s l n)
+  unfolding sweep
+  sweep-more [] m n w = w
+  sweep-more (x ∷ l) m n w = sweep-more l (visit s m x) (visit s n x) (visit-more m n x w)
+
+  -- ---- every closed set that holds the start
+
   -- a set that holds all that its members refer to
   abbrev pub Closed : (Elem → Type 0) → Type 0
   Closed S = (x y : Elem) → S x → y ∈ references s x → S y

@@ -10,6 +10,7 @@ pub mod ListLaws
 pub mod Least
 pub mod Tandem
 pub mod Accepted
+pub mod Turns
 pub mod Judged
 pub mod Failing
 pub mod Kept

@@ -11,7 +11,7 @@ use lib.ListN.{length, getD, take, drop, length-append, length-take, length-drop
 use borrow.Author.Tests.{ne-eqb, eqb-true, eqb-false}
 use Rattle.definitions.specs.Lists.{gather, total}
 use Rattle.definitions.specs.Areas.{Areas, Arena, Elem, N, Words, at, constants, expressions, globals, overrides, pool, size, types, width, word, words}
-use Rattle.definitions.specs.Slots.{body, typeBody, exprBody, Slot, below, count, exprSlots, fill, formOf, free, layout, may, must, slots, start, typeSlots, unused}
+use Rattle.definitions.specs.Slots.{body, typeBody, exprBody, Slot, below, count, exprSlots, fill, formOf, free, layout, may, must, slots, start, tail, typeSlots, unused}
 use Rattle.definitions.specs.References.{hasRun, namedBy, namedFrom, references, run, span}
 use Rattle.definitions.specs.Refusals.{every, runsBefore, shaped, shapedAt}
 use Rattle.definitions.specs.Numbering.{isKept, moved, newHandle, rank}
@@ -199,13 +199,13 @@ module _ (s : Areas) (m : List Elem) where
   unfolding width layout slots adjusted body typeBody exprBody
   kind-expression h i l = word-stays expressions h i l 0 (lit< tt) (below 34) refl refl
 
-  level-slot : (x k : ℕ) → k ≡ 15 → getD (below 34 ∷ fill 9 (getD (exprSlots x) k []) ++ (free ∷ [])) 6 unused ≡ below 5
-  unfolding exprSlots fill
-  level-slot x k e = subst (λ j. getD (below 34 ∷ fill 9 (getD (exprSlots x) j []) ++ (free ∷ [])) 6 unused ≡ below 5) (sym e) refl
+  level-slot : (x k : ℕ) → k ≡ 15 → getD (exprBody k x ++ tail) 6 unused ≡ below 5
+  unfolding exprBody exprSlots fill
+  level-slot x k e = subst (λ j. getD (exprBody j x ++ tail) 6 unused ≡ below 5) (sym e) refl
 
-  query-slot : (x k : ℕ) → k ≡ 17 → getD (below 34 ∷ fill 9 (getD (exprSlots x) k []) ++ (free ∷ [])) 2 unused ≡ below 4
-  unfolding exprSlots fill
-  query-slot x k e = subst (λ j. getD (below 34 ∷ fill 9 (getD (exprSlots x) j []) ++ (free ∷ [])) 2 unused ≡ below 4) (sym e) refl
+  query-slot : (x k : ℕ) → k ≡ 17 → getD (exprBody k x ++ tail) 2 unused ≡ below 4
+  unfolding exprBody exprSlots fill
+  query-slot x k e = subst (λ j. getD (exprBody j x ++ tail) 2 unused ≡ below 4) (sym e) refl
 
   form-stays : (h : ℕ) → at expressions h ∈ m → h < size s expressions → formOf (word after expressions (rank (isKept m expressions) h)) ≡ formOf (word s expressions h)
   unfolding formOf width layout slots adjusted body typeBody exprBody
@@ -239,13 +239,13 @@ module _ (s : Areas) (m : List Elem) where
   unfolding hasRun
   run-expression h t = eqb→eq _ _ t
 
-  type-run-slots : (k : ℕ) → k ≡ 3 → below 4 ∷ below 4 ∷ fill 2 (getD typeSlots k []) ++ (free ∷ []) ≡ below 4 ∷ below 4 ∷ start ∷ count ∷ free ∷ []
-  unfolding typeSlots fill
-  type-run-slots k e = subst (λ j. below 4 ∷ below 4 ∷ fill 2 (getD typeSlots j []) ++ (free ∷ []) ≡ below 4 ∷ below 4 ∷ start ∷ count ∷ free ∷ []) (sym e) refl
+  type-run-slots : (k : ℕ) → k ≡ 3 → typeBody k ++ tail ≡ below 4 ∷ below 4 ∷ start ∷ count ∷ tail
+  unfolding typeBody typeSlots fill
+  type-run-slots k e = subst (λ j. typeBody j ++ tail ≡ below 4 ∷ below 4 ∷ start ∷ count ∷ tail) (sym e) refl
 
-  expr-run-slots : (x k : ℕ) → k ≡ 8 → below 34 ∷ fill 9 (getD (exprSlots x) k []) ++ (free ∷ []) ≡ below 34 ∷ must types ∷ start ∷ count ∷ unused ∷ unused ∷ unused ∷ unused ∷ unused ∷ unused ∷ free ∷ []
-  unfolding exprSlots fill
-  expr-run-slots x k e = subst (λ j. below 34 ∷ fill 9 (getD (exprSlots x) j []) ++ (free ∷ []) ≡ below 34 ∷ must types ∷ start ∷ count ∷ unused ∷ unused ∷ unused ∷ unused ∷ unused ∷ unused ∷ free ∷ []) (sym e) refl
+  expr-run-slots : (x k : ℕ) → k ≡ 8 → exprBody k x ++ tail ≡ below 34 ∷ must types ∷ start ∷ count ∷ unused ∷ unused ∷ unused ∷ unused ∷ unused ∷ unused ∷ tail
+  unfolding exprBody exprSlots fill
+  expr-run-slots x k e = subst (λ j. exprBody j x ++ tail ≡ below 34 ∷ must types ∷ start ∷ count ∷ unused ∷ unused ∷ unused ∷ unused ∷ unused ∷ unused ∷ tail) (sym e) refl
 
   pub start-slot : (a : Arena) (h : ℕ) → T (hasRun s a h) → getD (layout s a h) 2 unused ≡ start
   unfolding hasRun layout slots body typeBody exprBody
@@ -410,6 +410,11 @@ module _ (s : Areas) (m : List Elem) where
           read : (j : ℕ) → word after a (rank (isKept m a) h) j ≡ adjusted m (startAfter s m a h) (getD (layout s a h) j unused) (word s a h j)
               → word after a (rank (isKept m a) h) (0 + j) ≡ adjusted m (startAfter s m a h) (getD (layout s a h) j unused) (word s a h (0 + j))
           read j e = rw (zero-add j) e
+
+      -- in the place that it moves to
+      pub moved-refers : (x : Elem) → x ∈ m → references after (moved m x) ≡ map (moved m) (references s x)
+      unfolding moved
+      moved-refers (at a h) i = rw (new-kept m a h i) (references-after a h i)
 
       -- what was kept lies inside, at its new place
       pub moved-inside : (x : Elem) → x ∈ m → Inside after (moved m x)

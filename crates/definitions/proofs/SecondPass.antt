@@ -1,4 +1,4 @@
--- Demand 3, the second pass: it is accepted and drops nothing.
+-- Demand 3, the second pass, from any roots that hold those of the first: it is accepted and drops nothing.
 -- Assumes nothing.
 use mathlib.Core.Path.{_≡_, refl, sym, subst}
 use mathlib.Core.Bool.{Bool, true, false, cond}
@@ -13,14 +13,14 @@ use Rattle.definitions.specs.Areas.{Areas, Arena, Elem, at, constants, g
 use Rattle.definitions.specs.Slots.{body, typeBody, exprBody, below, layout, slots}
 use Rattle.definitions.specs.References.{references}
 use Rattle.definitions.specs.Roots.{commonRoots, isAbstract, isNamed, mention, moreRoots, namedOverride, rootConstant, roots, those}
-use Rattle.definitions.specs.Sweep.{kept}
+use Rattle.definitions.specs.Sweep.{keptFrom}
 use Rattle.definitions.specs.Numbering.{isKept, moved, rank}
 use Rattle.definitions.specs.Records.{adjusted}
 use Rattle.definitions.proofs.Least.{_∈_, Within, map-within, Closed, here, there, cons-cases, none-in, append-left, append-right, append-cases}
 use Rattle.definitions.proofs.Accepted.{Sound, Accepted}
-use Rattle.definitions.proofs.Kept.{Inside, inside-lt, each-map, count-below, OrderedOn, all-ordered, kept-roots, kept-inside, kept-closed, kept-least}
+use Rattle.definitions.proofs.Kept.{Inside, inside-lt, each-map, count-below, OrderedOn, all-ordered, from-roots, from-inside, from-closed, from-least}
 use Rattle.definitions.proofs.Places.{new-kept, rank-below, no-gap}
-use Rattle.definitions.proofs.Reading.{after, size-after, word-after, word-stays, references-after}
+use Rattle.definitions.proofs.Reading.{after, size-after, word-after, word-stays, moved-refers}
 use Rattle.definitions.proofs.AcceptedAfter.{moved-kept, kept-slots, mentionCount-after, mention-after, accepted-after}
 
 in-map : (f : Elem → Elem) (x : Elem) (l : List Elem) → x ∈ l → f x ∈ map f l
@@ -85,38 +85,16 @@ count-map-in f i (suc n) h b l =
     (λ q. there (f h) (f i) (map f (countUp (suc i) n)) (count-map-in f (suc i) n h q (omega arith)))
     (eq-or-lt-of-le b)
 
-mentions-in-roots : (s : Areas) (keep : Bool) (h : ℕ) → h < mentionCount s → mention s h ∈ roots s keep
+pub mentions-in-roots : (s : Areas) (keep : Bool) (h : ℕ) → h < mentionCount s → mention s h ∈ roots s keep
 unfolding roots commonRoots
 mentions-in-roots s keep h l =
     append-left (mention s h) _ _
     (append-left (mention s h) (map (mention s) (countUp 0 (mentionCount s))) _
     (count-map-in (mention s) 0 (mentionCount s) h zero-le (subst (λ n. h < n) (sym (zero-add (mentionCount s))) l)))
 
--- ---- the second pass
+-- ---- the roots of a module, after a pass that keeps a closed set
 
-module _ (s : Areas) (c : Sound s) (keep : Bool) (o : OrderedOn s (kept s keep)) where
-  abbrev m : List Elem
-  m = kept s keep
-
-  abbrev ins : Within m (Inside s)
-  ins = kept-inside s c keep
-
-  abbrev clo : Closed s (λ x. x ∈ m)
-  clo = kept-closed s c keep o
-
-  mentioned : (h : ℕ) → h < mentionCount s → mention s h ∈ m
-  mentioned h l = kept-roots s keep (mention s h) (mentions-in-roots s keep h l)
-
-  -- what was kept is a module that the check accepts
-  pub accepted-again : Accepted (after s m)
-  accepted-again = accepted-after s m c ins clo o mentioned
-
-  inside-again : Within (kept (after s m) keep) (Inside (after s m))
-  inside-again = kept-inside (after s m) (accepted-again .sound) keep
-
-  closed-again : Closed (after s m) (λ x. x ∈ kept (after s m) keep)
-  closed-again = kept-closed (after s m) (accepted-again .sound) keep (all-ordered (after s m) accepted-again (kept (after s m) keep) inside-again)
-
+module _ (s : Areas) (m : List Elem) (c : Sound s) (ins : Within m (Inside s)) (clo : Closed s (λ x. x ∈ m)) where
   lt-kept : (a : Arena) (h : ℕ) → at a h ∈ m → h < size s a
   lt-kept a h i = inside-lt s a h (ins (at a h) i)
 
@@ -178,10 +156,10 @@ module _ (s : Areas) (c : Sound s) (keep : Bool) (o : OrderedOn s (kept s keep))
       (count-map-in (mention (after s m)) 0 (mentionCount (after s m)) h zero-le (rw (zero-add, mentionCount-after s m c ins clo) l)))
       (count-below s 0 (mentionCount s) (mentionCount s) (omega arith)))
 
-  -- a root stays a root
-  roots-after : (x : Elem) → x ∈ roots s keep → moved m x ∈ roots (after s m) keep
+  -- a root that is kept stays a root
+  pub roots-after : (keep : Bool) (x : Elem) → x ∈ m → x ∈ roots s keep → moved m x ∈ roots (after s m) keep
   unfolding roots commonRoots
-  roots-after x t =
+  roots-after keep x i t =
       ⊎-elim
       (λ u. append-left (moved m x) (map (mention (after s m)) (countUp 0 (mentionCount (after s m))) ++ those (after s m) constants (rootConstant (after s m))) _ (⊎-elim
       (λ q. append-left (moved m x) (map (mention (after s m)) (countUp 0 (mentionCount (after s m)))) _ (mention-root x q))
@@ -189,27 +167,50 @@ module _ (s : Areas) (c : Sound s) (keep : Bool) (o : OrderedOn s (kept s keep))
       (append-cases x (map (mention s) (countUp 0 (mentionCount s))) (those s constants (rootConstant s)) u)))
       (λ u. append-right (moved m x) (map (mention (after s m)) (countUp 0 (mentionCount (after s m))) ++ those (after s m) constants (rootConstant (after s m))) _ (more-after keep x i u))
       (append-cases x (map (mention s) (countUp 0 (mentionCount s)) ++ those s constants (rootConstant s)) (moreRoots s keep) t)
-    where
-      i : x ∈ m
-      i = kept-roots s keep x t
 
-  -- the second pass drops nothing
-  moved-again : (x : Elem) → x ∈ m → moved m x ∈ kept (after s m) keep
-  moved-again x i = (kept-least s keep (λ y. (y ∈ m) × (moved m y ∈ kept (after s m) keep)) step base x i) .1
-    where
-      step : Closed s (λ y. (y ∈ m) × (moved m y ∈ kept (after s m) keep))
-      step (at a h) y p r = (
-        clo (at a h) y (p .0) r,
-        closed-again (at a (rank (isKept m a) h)) (moved m y)
-            (rw (moved-kept s m c ins clo a h (p .0)) at (p .1))
-            (rw (references-after s m c ins clo a h (p .0)) (in-map (moved m) y (references s (at a h)) r)),
-      )
+-- ---- the second pass
 
-      base : Within (roots s keep) (λ y. (y ∈ m) × (moved m y ∈ kept (after s m) keep))
-      base y r = (kept-roots s keep y r, kept-roots (after s m) keep (moved m y) (roots-after y r))
+-- the first from roots that hold the mentions, or keep them
+module _
+    (s : Areas) (c : Sound s) (rs : List Elem) (w : Within rs (Inside s)) (o : OrderedOn s (keptFrom s rs))
+    (mentioned : (h : ℕ) → h < mentionCount s → mention s h ∈ keptFrom s rs)
+  where
+    abbrev m : List Elem
+    m = keptFrom s rs
 
-  pub drops-nothing : (x : Elem) → Inside (after s m) x → x ∈ kept (after s m) keep
-  drops-nothing (at a r) i =
-      let q = no-gap m a (size s a) r (subst (λ n. r < n) (size-after s m a) (inside-lt (after s m) a r i)) in
-      subst (λ j. at a j ∈ kept (after s m) keep) (q .from-rank)
-      (rw (moved-kept s m c ins clo a (q .from) (q .from-kept)) at (moved-again (at a (q .from)) (q .from-kept)))
+    abbrev ins : Within m (Inside s)
+    ins = from-inside s rs c w
+
+    abbrev clo : Closed s (λ x. x ∈ m)
+    clo = from-closed s rs c w o
+
+    -- what was kept is a module that the check accepts
+    pub accepted-again : Accepted (after s m)
+    accepted-again = accepted-after s m c ins clo o mentioned
+
+    -- the second from roots that hold those of the first, moved
+    module _ (rs′ : List Elem) (w′ : Within rs′ (Inside (after s m))) (again : (x : Elem) → x ∈ rs → moved m x ∈ rs′) where
+      inside-again : Within (keptFrom (after s m) rs′) (Inside (after s m))
+      inside-again = from-inside (after s m) rs′ (accepted-again .sound) w′
+
+      closed-again : Closed (after s m) (λ x. x ∈ keptFrom (after s m) rs′)
+      closed-again = from-closed (after s m) rs′ (accepted-again .sound) w′ (all-ordered (after s m) accepted-again (keptFrom (after s m) rs′) inside-again)
+
+      moved-again : (x : Elem) → x ∈ m → moved m x ∈ keptFrom (after s m) rs′
+      moved-again x i = (from-least s rs (λ y. (y ∈ m) × (moved m y ∈ keptFrom (after s m) rs′)) step base x i) .1
+        where
+          step : Closed s (λ y. (y ∈ m) × (moved m y ∈ keptFrom (after s m) rs′))
+          step x y p r = (
+            clo x y (p .0) r,
+            closed-again (moved m x) (moved m y) (p .1) (rw (moved-refers s m c ins clo x (p .0)) (in-map (moved m) y (references s x) r)),
+          )
+
+          base : Within rs (λ y. (y ∈ m) × (moved m y ∈ keptFrom (after s m) rs′))
+          base y r = (from-roots s rs y r, from-roots (after s m) rs′ (moved m y) (again y r))
+
+      -- it drops nothing
+      pub drops-nothing : (x : Elem) → Inside (after s m) x → x ∈ keptFrom (after s m) rs′
+      drops-nothing (at a r) i =
+          let q = no-gap m a (size s a) r (subst (λ n. r < n) (size-after s m a) (inside-lt (after s m) a r i)) in
+          subst (λ j. at a j ∈ keptFrom (after s m) rs′) (q .from-rank)
+          (rw (moved-kept s m c ins clo a (q .from) (q .from-kept)) at (moved-again (at a (q .from)) (q .from-kept)))

@@ -2,11 +2,11 @@
 -- Assumes nothing.
 use mathlib.Core.Bool.{Bool, true, false, _&&_}
 use mathlib.Core.List.{List, [], _∷_, _++_}
-use Prim.Native.Nat.{ℕ, zero, suc}
+use Prim.Native.Nat.{ℕ, zero, suc, _*_}
 use lib.ListN.{replicate}
 use lib.Dec.{T, eqb}
 use Rattle.definitions.specs.Lists.{all}
-use Rattle.definitions.specs.Areas.{Areas, N, Words, allWords}
+use Rattle.definitions.specs.Areas.{Areas, Arena, types, overrides, expressions, width, N, Words, allWords}
 use Rattle.definitions.specs.Outcome.{Maps, Outcome, outcome}
 use Rattle.definitions.specs.MapEntries.{Adjusted, Ranged, lookup, adjust, range}
 use Rattle.definitions.proofs.Computed.{computed}
@@ -88,32 +88,48 @@ upTo zero ws = []
 upTo (suc n) [] = N ∷ upTo n []
 upTo (suc n) (w ∷ ws) = w ∷ upTo n ws
 
+-- a record's tail, by its tag
+tagged : ℕ → Words
+tagged t = t ∷ []
+
+-- a type: kind, flags, a, b, tag
+type′ : ℕ → ℕ → ℕ → ℕ → ℕ → Words
+type′ k f a b t = k ∷ f ∷ a ∷ b ∷ tagged t
+
+-- a constant or an override: named, type, init, tag
+named′ : ℕ → ℕ → ℕ → ℕ → Words
+named′ n ty i t = n ∷ ty ∷ i ∷ tagged t
+
 -- an expression: its kind, its first slots, its tag
 expression : ℕ → Words → ℕ → Words
-expression k ws t = k ∷ upTo 9 ws ++ (t ∷ [])
+expression k ws t = k ∷ upTo 9 ws ++ tagged t
 
 literal : ℕ → Words
 literal t = expression 0 [] t
 
 -- a type with no handles, unnamed, with tag 0
 leaf : Words
-leaf = 0 ∷ 0 ∷ N ∷ N ∷ 0 ∷ []
+leaf = type′ 0 0 N N 0
+
+-- so many records of an arena, freed
+freed : Arena → ℕ → Words
+freed a n = replicate (n * width a) N
 
 -- the module of cases 1 and 2
 case1 : Areas
-case1 = module′ (0 ∷ 0 ∷ N ∷ N ∷ 10 ∷ 2 ∷ 1 ∷ 0 ∷ 0 ∷ 11 ∷ []) [] (0 ∷ 0 ∷ 1 ∷ 0 ∷ []) (literal 20 ++ literal 21) []
+case1 = module′ (type′ 0 0 N N 10 ++ type′ 2 1 0 0 11) [] (named′ 0 0 1 0) (literal 20 ++ literal 21) []
 
 -- "Expression [..] names the unnamed constant 0 whose init is expression 0"
 case4 : Words → Areas
-case4 e = module′ leaf (0 ∷ 0 ∷ 0 ∷ 0 ∷ []) [] e []
+case4 e = module′ leaf (named′ 0 0 0 0) [] e []
 
 -- "Types: leaf, array sized by an override with init expression 1, leaf."
 case5 : Words → Areas
-case5 e = module′ (leaf ++ (2 ∷ 0 ∷ 0 ∷ 0 ∷ 0 ∷ []) ++ leaf) [] (0 ∷ 0 ∷ 1 ∷ 0 ∷ []) e []
+case5 e = module′ (leaf ++ type′ 2 0 0 0 0 ++ leaf) [] (named′ 0 0 1 0) e []
 
 -- "A named constant of an abstract type": the type's flags
 case6 : ℕ → Areas
-case6 flags = module′ (0 ∷ flags ∷ N ∷ N ∷ 0 ∷ []) (1 ∷ 0 ∷ 0 ∷ 0 ∷ []) [] (literal 0) []
+case6 flags = module′ (type′ 0 flags N N 0) (named′ 1 0 0 0) [] (literal 0) []
 
 -- an expression behind a literal, mentioned
 case9 : Words → Areas
@@ -124,11 +140,11 @@ table =
     pass 1 case1 room withYes
     ((1 ∷ 0 ∷ 0 ∷ 0 ∷ 2 ∷ 0 ∷ 1 ∷ 0 ∷ 1 ∷ 0 ∷ 0 ∷ [])
     ∷ (0 ∷ 1 ∷ 7 ∷ 7 ∷ []) ∷ replicate 4 7 ∷ (0 ∷ 7 ∷ 7 ∷ 7 ∷ []) ∷ replicate 4 7 ∷ (N ∷ 0 ∷ 7 ∷ 7 ∷ [])
-    ∷ (0 ∷ 0 ∷ N ∷ N ∷ 10 ∷ 2 ∷ 1 ∷ 0 ∷ 0 ∷ 11 ∷ []) ∷ [] ∷ (0 ∷ 0 ∷ 0 ∷ 0 ∷ []) ∷ [] ∷ (literal 21 ++ replicate 11 N) ∷ [] ∷ [] ∷ [] ∷ [])
+    ∷ (type′ 0 0 N N 10 ++ type′ 2 1 0 0 11) ∷ [] ∷ named′ 0 0 0 0 ∷ [] ∷ (literal 21 ++ freed expressions 1) ∷ [] ∷ [] ∷ [] ∷ [])
     ∷ pass 2 case1 room withNo
     ((2 ∷ 0 ∷ 0 ∷ 0 ∷ replicate 7 0)
     ∷ (N ∷ N ∷ 7 ∷ 7 ∷ []) ∷ replicate 4 7 ∷ (N ∷ 7 ∷ 7 ∷ 7 ∷ []) ∷ replicate 4 7 ∷ (N ∷ N ∷ 7 ∷ 7 ∷ [])
-    ∷ replicate 10 N ∷ [] ∷ replicate 4 N ∷ [] ∷ replicate 22 N ∷ [] ∷ [] ∷ [] ∷ [])
+    ∷ freed types 2 ∷ [] ∷ freed overrides 1 ∷ [] ∷ freed expressions 2 ∷ [] ∷ [] ∷ [] ∷ [])
     ∷ refuses 4 (case4 (expression 5 (0 ∷ []) 0)) either 7 4 0
     ∷ keeps 4 (case4 (literal 0 ++ expression 5 (0 ∷ []) 0)) either 0 0 0 0 0
     ∷ refuses 5 (case5 (expression 7 (2 ∷ []) 0 ++ literal 0)) either 7 4 0
@@ -158,11 +174,11 @@ table =
     -- "youngest first": 2 keeps 1, and 1 keeps 0
     ∷ keeps 0 (module′ [] [] [] (literal 0 ++ expression 19 (0 ∷ []) 0 ++ expression 19 (1 ∷ []) 0) (4 ∷ 2 ∷ [])) withNo 0 0 0 0 3
     -- "Adjusting a run under its old start after the pool has moved": the first of two structs goes
-    ∷ pass 0 (pooled (leaf ++ (3 ∷ 0 ∷ 0 ∷ 2 ∷ 0 ∷ []) ++ (3 ∷ 0 ∷ 2 ∷ 1 ∷ 0 ∷ [])) (0 ∷ 0 ∷ 0 ∷ []) (0 ∷ 2 ∷ [])) room withNo
+    ∷ pass 0 (pooled (leaf ++ type′ 3 0 0 2 0 ++ type′ 3 0 2 1 0) (0 ∷ 0 ∷ 0 ∷ []) (0 ∷ 2 ∷ [])) room withNo
     ((0 ∷ 0 ∷ 0 ∷ 0 ∷ 2 ∷ 0 ∷ 0 ∷ 0 ∷ 0 ∷ 1 ∷ 0 ∷ [])
     ∷ (0 ∷ N ∷ 1 ∷ 7 ∷ []) ∷ replicate 4 7 ∷ replicate 4 7 ∷ replicate 4 7 ∷ replicate 4 7
-    ∷ (leaf ++ (3 ∷ 0 ∷ 0 ∷ 1 ∷ 0 ∷ []) ++ replicate 5 N) ∷ [] ∷ [] ∷ [] ∷ [] ∷ (0 ∷ N ∷ N ∷ []) ∷ [] ∷ (0 ∷ 1 ∷ []) ∷ [])
-    ∷ refuses 10 (module′ (1 ∷ 0 ∷ 9 ∷ N ∷ 0 ∷ []) [] [] (expression 34 [] 0) []) either 4 4 0
+    ∷ (leaf ++ type′ 3 0 0 1 0 ++ freed types 1) ∷ [] ∷ [] ∷ [] ∷ [] ∷ (0 ∷ N ∷ N ∷ []) ∷ [] ∷ (0 ∷ 1 ∷ []) ∷ [])
+    ∷ refuses 10 (module′ (type′ 1 0 9 N 0) [] [] (expression 34 [] 0) []) either 4 4 0
     -- nothing in any of the thirteen, before and after
     ∷ pass 11 (module′ [] [] [] [] []) (maps []) either ((11 ∷ 0 ∷ 0 ∷ 0 ∷ replicate 7 0) ∷ replicate 13 [])
     ∷ []
@@ -198,5 +214,5 @@ holds (adjusts h nr v) = sameWords (nr ∷ v ∷ []) (adjustedWords (adjust map7
 
 -- every row of the table holds
 pub worked : T (all holds table)
-unfolding computed holds table begins sameWords map7 adjustedWords rangedWords seen mapsIn refuses keeps withYes withNo either case1 case4 case5 case6 case9 module′ pooled maps room leaf literal expression upTo
+unfolding computed holds table begins sameWords map7 adjustedWords rangedWords seen mapsIn refuses keeps withYes withNo either case1 case4 case5 case6 case9 module′ pooled maps room leaf freed literal expression type′ named′ tagged upTo
 worked = tt

@@ -93,6 +93,18 @@ widths = eachArena width (1 ∷ 1 ∷ mentionWidth ∷ [])
 unfoldable pub limits : List ℕ
 limits = 4096 ∷ 4096 ∷ 4096 ∷ 4096 ∷ 4096 ∷ 16384 ∷ 16384 ∷ 4096 ∷ []
 
+-- the most records of an arena
+abbrev pub limit : Arena → ℕ
+limit a = getD limits (areaNumber a) 0
+
+-- the most records of the five arenas together
+unfoldable pub allRecords : ℕ
+allRecords = limit types + limit constants + limit overrides + limit globals + limit expressions
+
+-- as many words of 64 bits as have a bit for each of these records
+unfoldable pub marksWords : ℕ
+marksWords = allRecords / 64
+
 -- the length in words of the area of a number
 unfoldable pub lengthOf : Areas → ℕ → ℕ
 lengthOf s a = length (getD (allWords s) a [])

@@ -13,7 +13,7 @@ use Rattle.definitions.specs.Slots.{Slot, unused, free, below, must, may
 use Rattle.definitions.specs.References.{span, run, references}
 use Rattle.definitions.specs.Order.{behind}
 use Rattle.definitions.specs.Sweep.{has}
-use Rattle.definitions.specs.Refusals.{Verdict, accepted, refused, runsBefore}
+use Rattle.definitions.specs.Refusals.{Verdict, accepted, refused, runsBefore, turn}
 
 -- what each word of a record is, by its place
 unfoldable pub slotAt : Areas → Arena → ℕ → ℕ → Slot
@@ -89,7 +89,7 @@ pub data Fault (s : Areas) (maps : List ℕ) : ℕ → ℕ → ℕ → Type 0 wh
 
 -- "numbers 1 to 7 in turn [..] area order, lowest record first": the first place comes no later than the second
 abbrev pub NoLater : ℕ → ℕ → ℕ → ℕ → ℕ → ℕ → Type 0
-NoLater n a h n′ a′ h′ = (n < n′) ⊎ ((n ≡ n′) × ((a < a′) ⊎ ((a ≡ a′) × (h ≤ h′))))
+NoLater n a h n′ a′ h′ = (turn n < turn n′) ⊎ ((n ≡ n′) × ((a < a′) ⊎ ((a ≡ a′) × (h ≤ h′))))
 
 -- the verdict that the faults call for: accepted where there is none, otherwise the least
 abbrev pub CalledFor : Areas → List ℕ → Verdict → Type 0

@@ -1,7 +1,7 @@
 -- Document 01, "Refusal numbers": the check, numbers 1 to 7, as it runs.
 -- Assumes nothing.
 use mathlib.Core.Bool.{Bool, true, false, _&&_, not, cond}
-use mathlib.Core.List.{List, [], _∷_}
+use mathlib.Core.List.{List, [], _∷_, map}
 use Prim.Native.Nat.{ℕ, zero, suc, _+_, _%_}
 use lib.ListN.{length, getD}
 use lib.Dec.{eqb, ltb, leb}
@@ -135,6 +135,24 @@ check6 s = firstOf (eachArena (scanRecords 6 heldAt s) (scanMentions 6 (λ h. in
 unfoldable pub check7 : Areas → Verdict
 check7 s = firstOf (scanRecords 7 wellOrdered s types ∷ scanRecords 7 wellOrdered s expressions ∷ [])
 
--- "The check runs numbers 1 to 7 in turn"
+-- the verdict under a number, from a table of all by number; what isn't one of the seven refuses nothing
+unfoldable pub under : Areas → List ℕ → ℕ → Verdict
+under s maps n =
+    getD (accepted ∷ check1 s ∷ check2 s ∷ check3 s maps ∷ check4 s ∷ check5 s ∷ check6 s ∷ check7 s ∷ []) n accepted
+
+-- "The check runs numbers 1 to 7 in turn": the one list of the numbers, in the order in which they are tried
+unfoldable pub turns : List ℕ
+turns = 1 ∷ 2 ∷ 3 ∷ 4 ∷ 5 ∷ 6 ∷ 7 ∷ []
+
+-- how many of a list stand before a number
+unfoldable pub position : ℕ → List ℕ → ℕ
+position n [] = 0
+position n (m ∷ l) = cond (eqb n m) 0 (suc (position n l))
+
+-- a number's turn: how many are tried before it
+unfoldable pub turn : ℕ → ℕ
+turn n = position n turns
+
+-- the first fault of the numbers in turn
 unfoldable pub check : Areas → List ℕ → Verdict
-check s maps = firstOf (check1 s ∷ check2 s ∷ check3 s maps ∷ check4 s ∷ check5 s ∷ check6 s ∷ check7 s ∷ [])
+check s maps = firstOf (map (under s maps) turns)

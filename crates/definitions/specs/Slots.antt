@@ -104,7 +104,7 @@ exprBody kind form = below 34 ∷ fill 9 (getD (exprSlots form) kind [])
 unfoldable pub typeBody : ℕ → List Slot
 typeBody kind = below 4 ∷ below 4 ∷ fill 2 (getD typeSlots kind [])
 
--- the words of a record before its tag, by the words it has
+-- the words of a record before its tail, by the words it has
 unfoldable pub body : Arena → (ℕ → ℕ) → List Slot
 body types f = typeBody (f 0)
 body constants f = below 2 ∷ must types ∷ must expressions ∷ []  -- named, type, init
@@ -112,13 +112,13 @@ body overrides f = below 2 ∷ must types ∷ may expressions ∷ []  -- named, 
 body globals f = must types ∷ may expressions ∷ []  -- type, init or N
 body expressions f = exprBody (f 0) (formOf f)
 
--- "Tags are the host's own numbers and are only carried along."
-abbrev pub tag : List Slot
-tag = free ∷ []
+-- "Tags are the host's own numbers and are only carried along.": how every record ends
+abbrev pub tail : List Slot
+tail = free ∷ []
 
 -- what each word of a record is, by the words it has
 unfoldable pub slots : Arena → (ℕ → ℕ) → List Slot
-slots a f = body a f ++ tag
+slots a f = body a f ++ tail
 
 -- what each word of record h is
 unfoldable pub layout : Areas → Arena → ℕ → List Slot

@@ -14,10 +14,6 @@ unfoldable pub has : List Elem → Elem → Bool
 has [] x = false
 has (y ∷ m) x = same x y || has m x
 
--- "All roots are marked before the first visit."
-abbrev pub rootMarks : Areas → Bool → List Elem
-rootMarks s keep = withBehind s (roots s keep)
-
 -- "Visiting a marked element marks what it refers to". In the Rust: `trace_type`, `trace_expression`
 unfoldable pub visit : Areas → List Elem → Elem → List Elem
 visit s m x = cond (has m x) (withBehind s (references s x) ++ m) m
@@ -27,10 +23,14 @@ unfoldable pub sweep : Areas → List Elem → List Elem → List Elem
 sweep s [] m = m
 sweep s (x ∷ xs) m = sweep s xs (visit s m x)
 
--- the marks after k visits
-unfoldable pub marksAfter : Areas → Bool → ℕ → List Elem
-marksAfter s keep k = sweep s (take k (order s)) (rootMarks s keep)
+-- "All roots are marked before the first visit.": the marks after k visits, whichever elements are the roots
+unfoldable pub marksAfter : Areas → List Elem → ℕ → List Elem
+marksAfter s rs k = sweep s (take k (order s)) (withBehind s rs)
 
 -- and after all of them: what is kept
-unfoldable pub kept : Areas → Bool → List Elem
-kept s keep = sweep s (order s) (rootMarks s keep)
+unfoldable pub keptFrom : Areas → List Elem → List Elem
+keptFrom s rs = sweep s (order s) (withBehind s rs)
+
+-- what is kept from a module's own roots; the flag is true for `KeepUnused::Yes`
+abbrev pub kept : Areas → Bool → List Elem
+kept s keep = keptFrom s (roots s keep)

@@ -32,7 +32,7 @@ use Rattle.rules.proofs.Laws.{size-in, leading-le}
 use Rattle.rules.proofs.AtOnce.{Enough, good-keeps, good-kind}
 use Rattle.faults.specs.Checking.{Measured, most, limitsAt, boundsAt, looksAt, okAt, carriedAt, carriedTo, placesIn, placesAt, ownerOf, ok4, inTurn, scanArea, Passed, Used}
 use Rattle.faults.proofs.Scans.{all-accepted, turns-accepted}
-use Rattle.faults.proofs.Arenas.{room-le}
+use Rattle.faults.proofs.Arenas.{room-fits}
 use Rattle.faults.proofs.Tests.{looks-five, seven-looks, records, looks-there, pool-four, mention-four-six, record-four, record-six, record-seven, kind-other, mention-area, mention-handle}
 use Rattle.faults.proofs.Carries.{nothing, no-leading, handed-on, leads, carried-leads}
 use Rattle.faults.proofs.Records.{keeps, shaped-record, held-record, ordered-record}
@@ -228,7 +228,7 @@ module _ (s : Areas) (area : ℕ) where
     all-used q =
         let z : i ≡ size s (numbered area) = omega arith in
         let c : sum ≡ min (runsBefore s (numbered area) (size s (numbered area))) most = subst (λ j. sum ≡ min (runsBefore s (numbered area) j) most) z (h .counted) in
-        omega (arith, room-le s m (numbered area))
+        omega (arith, room-fits s m (numbered area))
 
 -- ---- the mentions
 

@@ -24,7 +24,7 @@ use Rattle.rules.specs.declared.Rule.the-variants.{Shaped, Held, Ordered}
 use Rattle.rules.specs.Rules.{heldBy, within, asked, leading}
 use Rattle.rules.proofs.Laws.{held-by, shaped-by, ordered-list, leading-dep}
 use Rattle.faults.specs.Checking.{Measured, boundsAt, most}
-use Rattle.faults.proofs.Arenas.{room-le}
+use Rattle.faults.proofs.Arenas.{room-fits}
 use Rattle.faults.proofs.Tests.{inside-by}
 
 -- two tests that agree on the words of a record
@@ -63,7 +63,7 @@ module _ (s : Areas) (a : Arena) (i : ℕ) where
       → keeps s (Shaped r) a i ≡ shapedAt s a i
   unfolding shapedAt asked
   shaped-record m r p q e =
-      every-same _ _ (word s a i) (λ l k. sym (shaped-by s a i r (omega (arith, room-le s m a)) p q e l (word s a i k))) 0 (layout s a i)
+      every-same _ _ (word s a i) (λ l k. sym (shaped-by s a i r (omega (arith, room-fits s m a)) p q e l (word s a i k))) 0 (layout s a i)
 
   -- number 6
   pub held-record : (z : Sizes) → z ≡ sizesOf s → (n : ℕ) → n ≡ sizeIn z a → Asks s (Held z) n a i (heldAt s a i)

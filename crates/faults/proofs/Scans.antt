@@ -2,11 +2,12 @@
 -- Assumes nothing.
 use mathlib.Core.Path.{_≡_, refl, sym, ap, _∙_}
 use mathlib.Core.Bool.{Bool, true, false, cond}
-use mathlib.Core.List.{List, [], _∷_}
+use mathlib.Core.List.{List, [], _∷_, map}
 use Prim.Native.Nat.{ℕ, zero, suc, _+_, _-_, _≤_, _<_}
-use native.Mathlib.Nat.{le-refl}
+use native.Mathlib.Nat.{le-refl, add-zero, add-suc, suc-add}
 use native.Mathlib.Numerals.{add-one}
 use native.Mathlib.Omega.{arith}
+use lib.ListN.{length, getD}
 use Rattle.definitions.specs.Refusals.{Verdict, accepted, refused, firstOf, scan}
 use Rattle.faults.specs.Checking.{inTurn}
 
@@ -98,3 +99,11 @@ pub last : (v : Verdict) {w : Verdict} → accepted ≡ w → v ≡ firstOf (v �
 unfolding firstOf
 last accepted e = e ∙ sym (first-on _ refl)
 last (refused n a h) e = refl
+
+-- those of a list, where place i + j has that of its number j
+pub list-turn : (f h : ℕ → Verdict) (i : ℕ) (l : List ℕ) → ((j : ℕ) → h (i + j) ≡ f (getD l j 0)) → firstOf (map f l) ≡ inTurn h i (length l)
+unfolding inTurn
+list-turn f h i [] e = none
+list-turn f h i (n ∷ l) e =
+    also (f n) (map f l) (list-turn f h (suc i) l (λ j. ap h (suc-add i j ∙ sym (add-suc i j)) ∙ e (suc j)))
+    ∙ ap (λ v. firstOf (v ∷ inTurn h (suc i) (length l) ∷ [])) (sym (e 0) ∙ ap h (add-zero i))

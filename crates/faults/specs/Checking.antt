@@ -7,7 +7,7 @@ use Prim.Native.Nat.{ℕ, zero, suc, _%_, _≤_, _<_, min}
 use lib.ListN.{length, getD}
 use lib.Dec.{eqb, ltb, leb}
 use Rattle.definitions.specs.Areas as areas
-use Rattle.definitions.specs.Areas.{Areas, types, expressions, numbered, size, pool}
+use Rattle.definitions.specs.Areas.{N, Areas, types, expressions, numbered, size, pool}
 use Rattle.definitions.specs.Areas.{lengthOf, recordsOf, width, widths, limits, mentionWord}
 use Rattle.definitions.specs.Order.{wellOrdered}
 use Rattle.definitions.specs.Roots.{mention}
@@ -144,7 +144,7 @@ carriedTo s n a (suc i) = carriedAt s n a i
 
 -- ---- what numbers 1 and 2 leave
 
--- whole types, and in no area more records than the largest limit
+-- whole types, and in no area as many records as N
 pub record Measured (s : Areas) : Type 0 where
   pub whole : length (s .types) % width types ≡ 0
-  pub few : (a : ℕ) → a < 8 → recordsOf s a ≤ 16384
+  pub few : (a : ℕ) → a < 8 → recordsOf s a < N

@@ -23,28 +23,37 @@ pub enum Verdict {
     Refused(Fault),
 }
 
-// The verdict on a module and the lengths of its maps: numbers 1 to 7 in turn, the first fault wins.
+// How many numbers there are.
+const TURNS: usize = 7;
+
+// The numbers in the order in which they are tried.
+const NUMBERS: [u32; TURNS] = [1, 2, 3, 4, 5, 6, 7];
+
+// How many of them, the first, go by the areas' lengths; the others go by the places.
+const BY_LENGTHS: usize = 3;
+
+// The verdict on a module and the lengths of its maps: the numbers in turn, the first fault wins.
 // A good module is told by one walk over it.
 fn judge(maps: &[usize; ARENAS as usize], m: &Module) -> Verdict
     ensures { λ r. ⌜ reportOf r ≡ reported (check (areasIn (given m)) (given maps)) ⌝ }
 {
-    let mut number = 1;
-    while number < 4 {
-        let v = areas::first(number, maps, m);
+    let mut turn = 0;
+    while turn < BY_LENGTHS {
+        let v = areas::first(NUMBERS[turn], maps, m);
         if let Verdict::Refused(f) = v {
             return Verdict::Refused(f);
         }
-        number += 1;
+        turn += 1;
     }
     if at_once::passes(m) {
         return Verdict::Accepted;
     }
-    while number < 8 {
-        let v = places::first(number, m);
+    while turn < TURNS {
+        let v = places::first(NUMBERS[turn], m);
         if let Verdict::Refused(f) = v {
             return Verdict::Refused(f);
         }
-        number += 1;
+        turn += 1;
     }
     Verdict::Accepted
 }

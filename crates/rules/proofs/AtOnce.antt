@@ -15,7 +15,7 @@ use Rattle.definitions.specs.Refusals.{every}
 use Rattle.definitions.proofs.Least.{and-left, and-right}
 use Rattle.definitions.proofs.Least.{both}
 use Rattle.arena.specs.Sizes.{sizeIn}
-use Rattle.slots.proofs.Laws.{every-tag}
+use Rattle.slots.proofs.Laws.{every-tail}
 use Rattle.rules.specs.declared.Limits.{Limits}
 use Rattle.rules.specs.declared.Bounds.{Bounds}
 use Rattle.rules.specs.declared.Rule.{Rule}
@@ -23,7 +23,7 @@ use Rattle.rules.specs.declared.Rule.the-variants.{Shaped, Held, Ordered
 use Rattle.rules.specs.Rules.{shapedBy, heldBy, within, asked, fitBy, goodBy}
 use Rattle.rules.proofs.Arms.{fits}
 use Rattle.rules.proofs.Behind.{of-type, of-expression, of-constant, of-override}
-use Rattle.rules.proofs.Every.{tag-kept}
+use Rattle.rules.proofs.Every.{tail-kept}
 
 -- a test that follows from another, asked of all words
 pub every-from : (p q : Slot → ℕ → Bool) (f : ℕ → ℕ) → ((x : Slot) (w : ℕ) → T (p x w) → T (q x w)) → (k : ℕ) (xs : List Slot) → T (every p f k xs) → T (every q f k xs)
@@ -127,7 +127,7 @@ module _ (s : Areas) (l : Limits) where
   -- a record whose words are good keeps every rule that the limits are enough for
   pub good-keeps : (rule : Rule) → Enough l rule → (a : Arena) (f : ℕ → ℕ) → T (every (goodBy s l) f 0 (body a f)) → T (every (asked s rule) f 0 (slots a f))
   unfolding slots
-  good-keeps rule h a f t = subst T (sym (every-tag (asked s rule) f (tag-kept s rule) (body a f) 0)) (every-from _ _ f (good-asked rule h) 0 (body a f) t)
+  good-keeps rule h a f t = subst T (sym (every-tail (asked s rule) f (tail-kept s rule) (body a f) 0)) (every-from _ _ f (good-asked rule h) 0 (body a f) t)
 
   -- and is of no kind that number 5 refuses
   pub good-kind : (f : ℕ → ℕ) → T (every (goodBy s l) f 0 (body expressions f)) → (f 0 ≡ 13 → ⊥) × (f 0 ≡ 27 → ⊥)

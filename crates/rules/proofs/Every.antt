@@ -17,12 +17,12 @@ use Rattle.rules.specs.declared.Rule.{Rule}
 use Rattle.rules.specs.declared.Rule.the-variants.{Shaped, Held, Ordered}
 use Rattle.rules.specs.Rules.{shapedBy, heldBy, asked}
 
--- no rule asks anything of a tag
-pub tag-kept : (s : Areas) (rule : Rule) (w : ℕ) → asked s rule free w ≡ true
+-- no rule asks anything of a tail
+pub tail-kept : (s : Areas) (rule : Rule) (w : ℕ) → asked s rule free w ≡ true
 unfolding asked shapedBy heldBy namedBy withBehind all
-tag-kept s (Shaped r) w = refl
-tag-kept s (Held z) w = refl
-tag-kept s (Ordered b) w = refl
+tail-kept s (Shaped r) w = refl
+tail-kept s (Held z) w = refl
+tail-kept s (Ordered b) w = refl
 
 -- of a shape that has run out two tests ask the same if they ask the same of unused slots
 pub same-unused : (p q : Slot → ℕ → Bool) (f : ℕ → ℕ) → ((w : ℕ) → p unused w ≡ q unused w) → (n k : ℕ) → every p f k (unpacked 0 n) ≡ every q f k (unpacked 0 n)

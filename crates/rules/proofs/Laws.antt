@@ -150,7 +150,7 @@ module _ (s : Areas) where
   -- past the last type a kind reads 0, where no words are left over
   unsized : length (s .types) % width types ≡ 0 → (v : ℕ) → size s types ≤ v → sizedBy s v ≡ 0
   unfolding sizedBy word words size width
-  unsized w v l = let h : length (s .types) ≤ v * 5 + 0 = omega arith in rw (List·getD-eq-default (s .types) 0 h)
+  unsized w v l = let h : length (s .types) ≤ v * width types + 0 = omega arith in rw (List·getD-eq-default (s .types) 0 h)
 
   -- a type's dep is below e just where the type is leading, or all are; no words are left over past the last type
   pub leading-dep : length (s .types) % width types ≡ 0 → (e u : ℕ)

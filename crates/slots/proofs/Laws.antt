@@ -8,7 +8,7 @@ use native.Mathlib.Nat.{le-of-suc-le-suc, not-suc-le-zero}
 use native.Mathlib.Omega.{arith}
 use lib.ListN.{length, take, drop, length-append}
 use Rattle.definitions.specs.Areas.{Areas, Arena, Elem, types, constants, overrides, globals, expressions, width, word, pool}
-use Rattle.definitions.specs.Slots.{Slot, unused, free, fill, body, tag, slots}
+use Rattle.definitions.specs.Slots.{Slot, unused, free, fill, body, tail, slots}
 use Rattle.definitions.specs.References.{hasRun, span, run, namedBy, namedFrom}
 use Rattle.definitions.specs.Order.{behind, withBehind}
 use Rattle.definitions.specs.Refusals.{every}
@@ -16,16 +16,19 @@ use Rattle.definitions.proofs.Reading.{length-slots}
 use Rattle.slots.specs.Codes.{packed, unpacked, decoded, codes, spanIn, runIn}
 use Rattle.slots.proofs.Packing.{packed-body}
 
--- a body has one word less than the record, its tag
-pub body-length : (a : Arena) (f : ℕ → ℕ) → length (body a f) + 1 ≡ width a
+-- a body and the tail are the record
+pub body-length : (a : Arena) (f : ℕ → ℕ) → length (body a f) + length tail ≡ width a
 unfolding slots
-body-length a f = sym (length-append (body a f) tag) ∙ length-slots a f
+body-length a f = sym (length-append (body a f) tail) ∙ length-slots a f
+
+pub tail-fits : (a : Arena) → length tail ≤ width a
+tail-fits a = omega (arith, body-length a (λ _. 0))
 
 body-le : (a : Arena) (f : ℕ → ℕ) → length (body a f) ≤ 10
 unfolding width
 body-le a f = go a (body-length a f)
   where
-    go : (a : Arena) {n : ℕ} → n + 1 ≡ width a → n ≤ 10
+    go : (a : Arena) {n : ℕ} → n + length tail ≡ width a → n ≤ 10
     go types e = omega arith
     go constants e = omega arith
     go overrides e = omega arith
@@ -38,17 +41,17 @@ fill-exact [] = refl
 fill-exact (x ∷ l) = ap (λ r. x ∷ r) (fill-exact l)
 
 -- as many slots as the body has words unpack to the body
-pub body-shape : (a : Arena) (f : ℕ → ℕ) (v n : ℕ) → v ≡ packed (body a f) → n + 1 ≡ width a → unpacked v n ≡ body a f
+pub body-shape : (a : Arena) (f : ℕ → ℕ) (v n : ℕ) → v ≡ packed (body a f) → n + length tail ≡ width a → unpacked v n ≡ body a f
 body-shape a f v n e w =
     let q : n ≡ length (body a f) = omega (arith, body-length a f) in
     packed-body a f n e (omega arith) ∙ rw q (fill-exact (body a f))
 
 module _ (p : Slot → ℕ → Bool) (f : ℕ → ℕ) where
-  -- a test that every free slot passes is asked of no tag
-  pub every-tag : ((w : ℕ) → p free w ≡ true) → (l : List Slot) (k : ℕ) → every p f k (l ++ tag) ≡ every p f k l
+  -- a test that every free slot passes is asked of no tail
+  pub every-tail : ((w : ℕ) → p free w ≡ true) → (l : List Slot) (k : ℕ) → every p f k (l ++ tail) ≡ every p f k l
   unfolding every
-  every-tag t [] k = rw (t (f k))
-  every-tag t (x ∷ l) k = ap (λ b. p x (f k) && b) (every-tag t l (suc k))
+  every-tail t [] k = simp t
+  every-tail t (x ∷ l) k = ap (λ b. p x (f k) && b) (every-tail t l (suc k))
 
   -- of a shape that has run out nothing is asked
   pub every-none : ((w : ℕ) → p unused w ≡ true) → (n k : ℕ) → every p f k (unpacked 0 n) ≡ true
@@ -57,10 +60,10 @@ module _ (p : Slot → ℕ → Bool) (f : ℕ → ℕ) where
   every-none u (suc n) k = rw (u (f k)) (every-none u n (suc k))
 
   -- so it is asked of the shape, of as many slots as the body has words
-  pub every-body : ((w : ℕ) → p free w ≡ true) → (a : Arena) (v n : ℕ) → v ≡ packed (body a f) → n + 1 ≡ width a
+  pub every-body : ((w : ℕ) → p free w ≡ true) → (a : Arena) (v n : ℕ) → v ≡ packed (body a f) → n + length tail ≡ width a
       → every p f 0 (slots a f) ≡ every p f 0 (unpacked v n)
   unfolding slots
-  every-body t a v n e w = every-tag t (body a f) 0 ∙ ap (every p f 0) (sym (body-shape a f v n e w))
+  every-body t a v n e w = every-tail t (body a f) 0 ∙ ap (every p f 0) (sym (body-shape a f v n e w))
 
 module _ (f : ℕ → ℕ) where
   named-fill : (n : ℕ) (l : List Slot) (k : ℕ) → length l ≤ n → namedFrom f k (fill n l) ≡ namedFrom f k l
@@ -70,10 +73,10 @@ module _ (f : ℕ → ℕ) where
   named-fill (suc n) [] k h = named-fill n [] (suc k) (omega arith)
   named-fill (suc n) (x ∷ l) k h = ap (λ r. namedBy x (f k) ++ r) (named-fill n l (suc k) (le-of-suc-le-suc h))
 
-  named-tag : (l : List Slot) (k : ℕ) → namedFrom f k (l ++ tag) ≡ namedFrom f k l
+  named-tail : (l : List Slot) (k : ℕ) → namedFrom f k (l ++ tail) ≡ namedFrom f k l
   unfolding namedFrom namedBy
-  named-tag [] k = refl
-  named-tag (x ∷ l) k = ap (λ r. namedBy x (f k) ++ r) (named-tag l (suc k))
+  named-tail [] k = refl
+  named-tail (x ∷ l) k = ap (λ r. namedBy x (f k) ++ r) (named-tail l (suc k))
 
   -- a shape that has run out names nothing
   pub named-none : (n k : ℕ) → namedFrom f k (unpacked 0 n) ≡ []
@@ -84,7 +87,7 @@ module _ (f : ℕ → ℕ) where
   -- what a record's slots name, its shape names
   pub named-shape : (a : Arena) (v : ℕ) → v ≡ packed (body a f) → namedFrom f 0 (slots a f) ≡ namedFrom f 0 (unpacked v 10)
   unfolding slots
-  named-shape a v e = named-tag (body a f) 0 ∙ sym (named-fill 10 (body a f) 0 (body-le a f)) ∙ ap (namedFrom f 0) (sym (packed-body a f 10 e (body-le a f)))
+  named-shape a v e = named-tail (body a f) 0 ∙ sym (named-fill 10 (body a f) 0 (body-le a f)) ∙ ap (namedFrom f 0) (sym (packed-body a f 10 e (body-le a f)))
 
 -- the count of a record's run, and the run, in the module
 pub span-in : (s : Areas) (a : Arena) (h : ℕ) → span s a h ≡ spanIn a (word s a h)

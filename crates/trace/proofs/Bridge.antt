@@ -8,14 +8,14 @@ use native.Mathlib.Nat.{le-trans}
 use native.Mathlib.Omega.{arith}
 use lib.Dec.{T, eqb}
 use borrow.Author.Tests.{lt-ltb, eq-eqb, ne-eqb}
-use Rattle.definitions.specs.Areas.{Areas, Elem, at, same, types, constants, overrides, globals, expressions, size}
+use Rattle.definitions.specs.Areas.{Areas, Elem, at, same, types, constants, overrides, globals, expressions, size, allRecords}
 use Rattle.definitions.specs.References.{references}
 use Rattle.definitions.specs.Roots.{those, commonRoots, moreRoots, roots}
 use Rattle.definitions.specs.Order.{order, withBehind}
-use Rattle.definitions.specs.Sweep.{has, rootMarks, visit, sweep, kept}
-use Rattle.definitions.proofs.Least.{same-eq, same-refl, here, there, Within, Closed, reached-within, sweep-old}
-use Rattle.definitions.proofs.Accepted.{Sound, size-limit}
-use Rattle.definitions.proofs.Kept.{Inside, inside-lt, lt-inside, inside-closed, kept-inside}
+use Rattle.definitions.specs.Sweep.{has, visit, sweep, keptFrom}
+use Rattle.definitions.proofs.Least.{same-eq, same-refl, here, there, Within, Closed, touched-within, reached-within}
+use Rattle.definitions.proofs.Accepted.{Sound, size-limit, all-few}
+use Rattle.definitions.proofs.Kept.{Inside, inside-lt, lt-inside, inside-closed}
 use Rattle.definitions.proofs.Tandem.{Among, visits-among}
 use Rattle.arena.specs.HandleSet.{bases, records, bit, member, room}
 use Rattle.arena.specs.Marks.{Marks}
@@ -107,11 +107,16 @@ order-inside s x h = go x (visits-among s (size s types) (size s expressions) x 
     go (at expressions u) a = lt-inside s expressions u (a .1)
 
 module _ (s : Areas) (c : Sound s) where
-  -- a sound module has room for its bits in 320 words
-  pub records-few : records (size s) ≤ 20480
+  -- a sound module has no more records than the limits allow
+  pub records-few : records (size s) ≤ allRecords
+  unfolding allRecords
   records-few =
       let few = size-limit s (c .few) in
       omega (arith, few types, few constants, few overrides, few globals, few expressions)
+
+  -- so that no sum of them is capped
+  pub records-small : records (size s) < 4294967296
+  records-small = omega (arith, records-few, all-few)
 
   -- some visits
   pub sweep-marks : (xs m : List Elem) {before after : List ℕ} → bases (size s) .end ≤ room before → Within xs (Inside s) → Marks s before m
@@ -119,20 +124,19 @@ module _ (s : Areas) (c : Sound s) where
   sweep-marks xs m {before} fits w k p = record {
     marked = λ x i.
         p .holds (bit (bases (size s)) x)
-        ∙ sweep-stands s (omega (arith, records-few)) (room before) fits (inside-closed s c) xs m (member before) w (k .marked) x i;
+        ∙ sweep-stands s records-small (room before) fits (inside-closed s c) xs m (member before) w (k .marked) x i;
   }
 
-  module _ (keep : Bool) {before after : List ℕ} (fits : bases (size s) .end ≤ room before) where
-    -- the roots, put into emptied words
-    pub root-marks : Marks s before [] → Marked s (bases (size s)) (roots s keep) before after → Marks s after (rootMarks s keep)
-    unfolding bitsOf kept
-    root-marks k p =
-        subst (Marks s after) (append-nil (rootMarks s keep))
-        (marks-added s (rootMarks s keep) [] (omega (arith, records-few)) fits
-        (λ x h. kept-inside s c keep x (sweep-old s (order s) (rootMarks s keep) x h)) k p)
+  module _ (rs : List Elem) {before after : List ℕ} (fits : bases (size s) .end ≤ room before) where
+    -- any roots of the module, put into emptied words
+    pub root-marks : Within rs (Inside s) → Marks s before [] → Marked s (bases (size s)) rs before after → Marks s after (withBehind s rs)
+    unfolding bitsOf
+    root-marks w k p =
+        subst (Marks s after) (append-nil (withBehind s rs))
+        (marks-added s (withBehind s rs) [] records-small fits (touched-within s (Inside s) (inside-closed s c) rs w) k p)
 
     -- all visits
-    pub kept-marks : Marks s before (rootMarks s keep) → Holds before (sweepBits s (bases (size s)) (room before) (order s) (member before)) after
-        → Marks s after (kept s keep)
-    unfolding kept
-    kept-marks = sweep-marks (order s) (rootMarks s keep) fits (order-inside s)
+    pub kept-marks : Marks s before (withBehind s rs) → Holds before (sweepBits s (bases (size s)) (room before) (order s) (member before)) after
+        → Marks s after (keptFrom s rs)
+    unfolding keptFrom
+    kept-marks = sweep-marks (order s) (withBehind s rs) fits (order-inside s)

@@ -42,20 +42,20 @@ module _ (p : Maps) (b : ℕ) (f : ℕ → ℕ) where
   of-global = at-keys (Right p b f _) (3 ∷ []) (refl, tt)
 
 -- how many words such a record has
-of-width : (n k area : ℕ) → width (numbered k) ≡ n → OneOf (k ∷ []) area → width (numbered area) ≡ n
-of-width n k area e = at-keys (λ a. width (numbered a) ≡ n) (k ∷ []) (e, tt) area
+of-width : (k area : ℕ) → OneOf (k ∷ []) area → width (numbered area) ≡ width (numbered k)
+of-width k area = at-keys (λ a. width (numbered a) ≡ width (numbered k)) (k ∷ []) (refl, tt) area
 
 adjust-named-requires : tie.Need-adjust-named-requires
 unfolding opened
-adjust-named-requires c κs = omega (arith, of-width 4 1 _ refl (c .before .match .keys1))
+adjust-named-requires c κs = omega (arith, of-width 1 _ (c .before .match .keys1))
 
 adjust-named-requires-2 : tie.Need-adjust-named-requires-2
 unfolding opened
-adjust-named-requires-2 c κs = omega (arith, of-width 4 2 _ refl (c .before .match .keys2))
+adjust-named-requires-2 c κs = omega (arith, of-width 2 _ (c .before .match .keys2))
 
 adjust-typed-requires : tie.Need-adjust-typed-requires
 unfolding opened
-adjust-typed-requires c κs = omega (arith, of-width 3 3 _ refl (c .before .match .keys3))
+adjust-typed-requires c κs = omega (arith, of-width 3 _ (c .before .match .keys3))
 
 shape-requires : tie.Need-shape-requires
 shape-requires c κs = search needs

@@ -9,11 +9,10 @@ use lib.ListN.{length, getD, set}
 use lib.Seq.{sets}
 use borrow.Author.Needs.{needs}
 use Rattle.definitions.specs.Areas.{Words, Arena, numbered, width}
-use Rattle.definitions.specs.Slots.{Slot, body, tag, slots}
+use Rattle.definitions.specs.Slots.{Slot, body, tail, slots}
 use Rattle.definitions.specs.Outcome.{Maps}
-use Rattle.definitions.proofs.Reading.{width-pos}
 use Rattle.slots.specs.Codes.{wordsFrom}
-use Rattle.slots.proofs.Laws.{body-length}
+use Rattle.slots.proofs.Laws.{body-length, tail-fits}
 use Rattle.adjust.specs.Rewrite.{adjustedBy, recordFrom}
 use Rattle.adjust.proofs.Stores.{past-sets, sets-last}
 use Rattle.adjust.proofs.Passes.{length-record}
@@ -22,7 +21,7 @@ use Rattle.adjust.proofs.adjust_kept.Tie as tie
 
 module _ (p : Maps) (b : ℕ) where
   -- a record's words, then its tail as it is
-  record-tail : (f : ℕ → ℕ) (k : ℕ) (ls : List Slot) → recordFrom p b f k (ls ++ tag) ≡ recordFrom p b f k ls ++ (f (k + length ls) ∷ [])
+  record-tail : (f : ℕ → ℕ) (k : ℕ) (ls : List Slot) → recordFrom p b f k (ls ++ tail) ≡ recordFrom p b f k ls ++ (f (k + length ls) ∷ [])
   unfolding recordFrom adjustedBy
   record-tail f k [] = ap (λ i. f i ∷ []) (sym (add-zero k))
   record-tail f k (l ∷ ls) =
@@ -30,7 +29,7 @@ module _ (p : Maps) (b : ℕ) where
       ap (λ r. adjustedBy p b l (f k) ∷ r) (record-tail f (suc k) ls ∙ ap (λ i. recordFrom p b f (suc k) ls ++ (f i ∷ [])) e)
 
   -- stored one after the other they are the record
-  carried : (a : Arena) (ws : Words) (from to n : ℕ) {new last : Words} → to ≤ from → n + 1 ≡ width a
+  carried : (a : Arena) (ws : Words) (from to n : ℕ) {new last : Words} → to ≤ from → n + length tail ≡ width a
       → new ≡ sets ws to (recordFrom p b (wordsFrom ws from) 0 (body a (wordsFrom ws from))) → last ≡ set new (to + n) (getD new (from + n) 0)
       → last ≡ sets ws to (recordFrom p b (wordsFrom ws from) 0 (slots a (wordsFrom ws from)))
   unfolding slots
@@ -46,10 +45,10 @@ module _ (p : Maps) (b : ℕ) where
       ∙ ap (sets ws to) (sym (record-tail f 0 (body a f) ∙ ap (λ i. vs ++ (f i ∷ [])) k))
 
 sub-n : tie.Need-sub-n
-sub-n c = omega (arith, width-pos (numbered (c .before .before .before .before .before .before .args .area)))
+sub-n c = omega (arith, tail-fits (numbered (c .before .before .before .before .before .before .args .area)))
 
 adjust-body-requires : tie.Need-adjust-body-requires
-adjust-body-requires c κs = omega (arith, width-pos (numbered (c .before .before .before .before .before .before .before .args .area)))
+adjust-body-requires c κs = omega (arith, tail-fits (numbered (c .before .before .before .before .before .before .before .args .area)))
 
 add-carry-tail : tie.Need-add-carry-tail
 add-carry-tail c = search needs
@@ -58,7 +57,7 @@ add-carry-tail-2 : tie.Need-add-carry-tail-2
 add-carry-tail-2 c = search needs
 
 carry-tail-requires : tie.Need-carry-tail-requires
-carry-tail-requires c κs = omega (arith, width-pos (numbered (c .before .before .before .before .before .before .before .before .before .before .before .args .area)))
+carry-tail-requires c κs = omega (arith, tail-fits (numbered (c .before .before .before .before .before .before .before .before .before .before .before .args .area)))
 
 same-length : tie.Need-same-length
 same-length c = search needs
@@ -66,7 +65,7 @@ same-length c = search needs
 returns : tie.Need-returns
 returns c =
     let a = c .before .before .before .before .before .before .before .before .before .before .before .before .before .before .args in
-    carried _ (a .start) (numbered (a .area)) (a .ws .now) (a .from) (a .to) _ (omega arith) (omega (arith, width-pos (numbered (a .area)))) (c .before .before .before .before .before .before .adjust-body .ensures) (c .before .before .carry-tail .ensures)
+    carried _ (a .start) (numbered (a .area)) (a .ws .now) (a .from) (a .to) _ (omega arith) (omega (arith, tail-fits (numbered (a .area)))) (c .before .before .before .before .before .before .adjust-body .ensures) (c .before .before .carry-tail .ensures)
 
 pub adjust-kept-spec : {M : Type 1} → statement M
 adjust-kept-spec =

@@ -11,11 +11,10 @@ use borrow.Author.Tests.{lt-ltb, le-ltb}
 use Rattle.definitions.specs.Areas.{N, Areas, numbered}
 use Rattle.definitions.specs.Slots.{body}
 use Rattle.definitions.specs.Refusals.{every}
-use Rattle.definitions.proofs.Reading.{width-pos}
 use Rattle.arena.specs.Lent.{areasIn}
 use Rattle.slots.specs.Codes.{wordsFrom}
 use Rattle.slots.proofs.Decision.{at-keys}
-use Rattle.slots.proofs.Laws.{body-shape}
+use Rattle.slots.proofs.Laws.{body-shape, tail-fits}
 use Rattle.rules.specs.declared.Limits.{Limits}
 use Rattle.rules.specs.Rules.{fitBy, typedFits, goodBy}
 use Rattle.rules.proofs.record_good.Statement.{statement}
@@ -80,7 +79,7 @@ arena-width-requires : tie.Need-arena-width-requires
 arena-width-requires c κs = search needs
 
 sub-slots-good : tie.Need-sub-slots-good
-sub-slots-good c = omega (arith, c .arena-width .ensures, width-pos (numbered (c .before .before .before .before .args .area)))
+sub-slots-good c = omega (arith, c .arena-width .ensures, tail-fits (numbered (c .before .before .before .before .args .area)))
 
 slots-good-requires : tie.Need-slots-good-requires
 slots-good-requires c κs = search needs
@@ -126,7 +125,7 @@ returns-6 c =
     let f = wordsFrom (a .ws .now) (a .at) in
     c .slots-good .ensures
     ∙ ap (every (goodBy (areasIn (a .m .now)) (a .l)) f 0)
-    (body-shape (numbered (a .area)) f _ _ (c .before .before .shape .ensures) (omega (arith, c .before .arena-width .ensures, width-pos (numbered (a .area)))))
+    (body-shape (numbered (a .area)) f _ _ (c .before .before .shape .ensures) (omega (arith, c .before .arena-width .ensures, tail-fits (numbered (a .area)))))
 
 pub record-good-spec : {M : Type 1} → statement M
 record-good-spec =

@@ -6,12 +6,11 @@ use borrow.Author.Needs.{needs}
 use Rattle.definitions.specs.Areas.{numbered}
 use Rattle.definitions.specs.Slots.{slots, layout}
 use Rattle.definitions.specs.Refusals.{every}
-use Rattle.definitions.proofs.Reading.{width-pos}
 use Rattle.arena.specs.Lent.{areasIn}
 use Rattle.slots.specs.Codes.{wordsFrom}
-use Rattle.slots.proofs.Laws.{every-body}
+use Rattle.slots.proofs.Laws.{every-body, tail-fits}
 use Rattle.rules.specs.Rules.{asked}
-use Rattle.rules.proofs.Every.{tag-kept}
+use Rattle.rules.proofs.Every.{tail-kept}
 use Rattle.slots.proofs.Places.{place-fits, record-words}
 use Rattle.rules.proofs.record_keeps.Statement.{statement}
 use Rattle.rules.proofs.record_keeps.Tie as tie
@@ -31,7 +30,7 @@ shape-requires : tie.Need-shape-requires
 shape-requires c κs = search needs
 
 sub-slots-keep : tie.Need-sub-slots-keep
-sub-slots-keep c = omega (arith, c .before .arena-width .ensures, width-pos (numbered (c .before .before .before .args .area)))
+sub-slots-keep c = omega (arith, c .before .arena-width .ensures, tail-fits (numbered (c .before .before .before .args .area)))
 
 slots-keep-requires : tie.Need-slots-keep-requires
 slots-keep-requires c κs = search needs
@@ -46,8 +45,8 @@ returns c =
     let p = asked s (a .rule) in
     c .slots-keep .ensures
     ∙ sym
-    (every-body p (wordsFrom (ws .result .now) _) (tag-kept _ _) (numbered (a .area)) _ _ (c .before .shape .ensures)
-    (omega (arith, w, width-pos (numbered (a .area)))))
+    (every-body p (wordsFrom (ws .result .now) _) (tail-kept _ _) (numbered (a .area)) _ _ (c .before .shape .ensures)
+    (omega (arith, w, tail-fits (numbered (a .area)))))
     ∙ ap (λ f. every p f 0 (slots (numbered (a .area)) f)) (record-words s (numbered (a .area)) (a .i) (ws .ensures) w)
 
 pub record-keeps-spec : {M : Type 1} → statement M

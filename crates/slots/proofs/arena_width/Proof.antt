@@ -15,19 +15,19 @@ Is v area = v ≡ width (numbered area)
 
 returns : tie.Need-returns
 unfolding numbered width
-returns c = at-keys (Is 5) (0 ∷ []) (refl, tt) _ (c .match .keys1)
+returns c = at-keys (Is _) (0 ∷ []) (refl, tt) _ (c .match .keys1)
 
 returns-2 : tie.Need-returns-2
 unfolding numbered width
-returns-2 c = at-keys (Is 4) (1 ∷ []) (refl, tt) _ (c .match .keys2)
+returns-2 c = at-keys (Is _) (1 ∷ []) (refl, tt) _ (c .match .keys2)
 
 returns-3 : tie.Need-returns-3
 unfolding numbered width
-returns-3 c = at-keys (Is 4) (2 ∷ []) (refl, tt) _ (c .match .keys3)
+returns-3 c = at-keys (Is _) (2 ∷ []) (refl, tt) _ (c .match .keys3)
 
 returns-4 : tie.Need-returns-4
 unfolding numbered width
-returns-4 c = at-keys (Is 3) (3 ∷ []) (refl, tt) _ (c .match .keys4)
+returns-4 c = at-keys (Is _) (3 ∷ []) (refl, tt) _ (c .match .keys4)
 
 returns-5 : tie.Need-returns-5
 unfolding width

@@ -1,9 +1,25 @@
--- `keep::mark` meets its contract: emptied words, the roots, then every visit.
+-- `judge::mark` meets its contract: emptied words, the roots, then every visit.
 -- Assumes nothing.
 use Rattle.compact.proofs.Marking.{marking}
 use borrow.Author.Needs.{needs}
-use Rattle.compact.proofs.keep.mark.Statement.{statement}
-use Rattle.compact.proofs.keep.mark.Tie as tie
+use Rattle.compact.proofs.judge.mark.Statement.{statement}
+use Rattle.compact.proofs.judge.mark.Tie as tie
+
+-- the places after each step, seen from the end
+abbrev swept : tie.After-slice-known3 → tie.After-type-expression-tandem
+swept c = search
+
+abbrev rooted : tie.After-slice-known3 → tie.After-mark-roots
+rooted c = search
+
+abbrev based : tie.After-slice-known3 → tie.After-of2
+based c = search
+
+abbrev counted : tie.After-slice-known3 → tie.After-of
+counted c = search
+
+abbrev start : tie.After-slice-known3 → tie.Start
+start c = search
 
 of-requires : tie.Need-of-requires
 of-requires c κs = search needs
@@ -31,9 +47,8 @@ same-length c = search needs
 
 returns : tie.Need-returns
 returns c =
-    let d = c .before .before .before .before .before .before .before .before .before .before .before .before .before .before .before .before .before .before .before .before .before .before .before .before in
-    marking _ (d .pre .0) (d .args .keep) _ _ (c .before .before .before .before .before .before .before .before .before .before .before .before .before .of .ensures) (c .before .before .before .before .before .before .before .before .before .before .before .before .of2 .ensures) (d .pre .1)
-    (c .before .before .before .before .before .before .before .before .before .mark-roots .ensures) (c .before .before .type-expression-tandem .ensures .1)
+    marking _ (start c .pre .0) (start c .args .keep) _ _ (counted c .of .ensures) (based c .of2 .ensures) (start c .pre .1)
+    (rooted c .mark-roots .ensures) (swept c .type-expression-tandem .ensures .1)
 
 pub mark-spec : {M : Type 1} → statement M
 mark-spec =
