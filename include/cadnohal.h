@@ -9,6 +9,9 @@
  * One duty is the caller's, since nothing can check it: each pointer is good for its length, and the slices of one
  * call don't overlap. A slice is a pointer and its length in words, not bytes; an empty one may be NULL with 0.
  *
+ * C99 or C++. cadnohal_compact_module and cadnohal_check_module take the slices by name, in a struct; what they call,
+ * cadnohal_compact and cadnohal_check, takes them in the order below.
+ *
  * The areas, in this order. A record is so many words; a handle is a record's place in its area, from 0.
  *
  *   0 types        kind, flags, a, b, tag                 at most  4096 records
@@ -51,6 +54,16 @@
 #ifdef __cplusplus
 extern "C" {
 #endif
+
+/* The form of this boundary: it goes up by one where a function's form or meaning changes. */
+#define CADNOHAL_ABI 1
+
+/* The version of this header and of the Rust crate. */
+#define CADNOHAL_VERSION "0.1.0"
+
+/* The CADNOHAL_ABI that the archive was built with. Header and archive belong together where the two are equal: ask
+ * once, before the first call of any other function, whose arguments are read wrongly where they are not. */
+uint32_t cadnohal_abi(void);
 
 /* "No handle". */
 #define CADNOHAL_N 4294967295u
@@ -103,6 +116,58 @@ cadnohal_answer cadnohal_check(
     const uint32_t *override_map, size_t override_map_length,
     const uint32_t *global_map, size_t global_map_length,
     const uint32_t *expression_map, size_t expression_map_length);
+
+/* A slice: a pointer and its length in words. {0} is an empty one. */
+typedef struct {
+    uint32_t *words;
+    size_t length;
+} cadnohal_slice;
+
+/* The slices of a module by name. Fill them in by name, in a struct that is {0} before: a field that isn't named is
+ * then an empty slice, and so are fields that a later version adds. The archive never sees the struct. */
+typedef struct {
+    cadnohal_slice types, constants, overrides, globals, expressions, members, components, mentions;
+    cadnohal_slice type_map, constant_map, override_map, global_map, expression_map;
+} cadnohal_module;
+
+/* cadnohal_compact over the slices of m. */
+static inline cadnohal_answer cadnohal_compact_module(const cadnohal_module *m, uint32_t keep_unused)
+{
+    return cadnohal_compact(
+        m->types.words, m->types.length,
+        m->constants.words, m->constants.length,
+        m->overrides.words, m->overrides.length,
+        m->globals.words, m->globals.length,
+        m->expressions.words, m->expressions.length,
+        m->members.words, m->members.length,
+        m->components.words, m->components.length,
+        m->mentions.words, m->mentions.length,
+        m->type_map.words, m->type_map.length,
+        m->constant_map.words, m->constant_map.length,
+        m->override_map.words, m->override_map.length,
+        m->global_map.words, m->global_map.length,
+        m->expression_map.words, m->expression_map.length,
+        keep_unused);
+}
+
+/* cadnohal_check over the slices of m. Nothing changes, though the struct's pointers aren't const: it serves both. */
+static inline cadnohal_answer cadnohal_check_module(const cadnohal_module *m)
+{
+    return cadnohal_check(
+        m->types.words, m->types.length,
+        m->constants.words, m->constants.length,
+        m->overrides.words, m->overrides.length,
+        m->globals.words, m->globals.length,
+        m->expressions.words, m->expressions.length,
+        m->members.words, m->members.length,
+        m->components.words, m->components.length,
+        m->mentions.words, m->mentions.length,
+        m->type_map.words, m->type_map.length,
+        m->constant_map.words, m->constant_map.length,
+        m->override_map.words, m->override_map.length,
+        m->global_map.words, m->global_map.length,
+        m->expression_map.words, m->expression_map.length);
+}
 
 /* The three map entries take any map and judge by the length they are given: hand in the part that a pass wrote, one
  * word for each old record. They change nothing. */

@@ -51,7 +51,7 @@ impl Arguments {
         match self.option("--library").unwrap_or("linked") {
             "restated" => Ok(&Restated),
             #[cfg(library)]
-            "linked" => Ok(&crate::ffi::Linked),
+            "linked" => Ok(crate::ffi::linked()?),
             #[cfg(not(library))]
             "linked" => Err(String::from(
                 "libcadnohal.a was not there when this was built (CADNOHAL_LIB_DIR)",

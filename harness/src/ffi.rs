@@ -22,6 +22,8 @@ type WordMut = *mut u32;
 #[rustfmt::skip]
 #[link(name = "cadnohal", kind = "static")]
 unsafe extern "C" {
+    fn cadnohal_abi() -> u32;
+
     fn cadnohal_compact(
         types: WordMut, types_len: usize, constants: WordMut, constants_len: usize,
         overrides: WordMut, overrides_len: usize, globals: WordMut, globals_len: usize,
@@ -49,6 +51,18 @@ unsafe extern "C" {
 
 /// The static library that is linked in.
 pub struct Linked;
+
+/// The form of the boundary that is declared here.
+const ABI: u32 = 1;
+
+/// The linked library, if its functions have the form that is declared here.
+pub fn linked() -> Result<&'static Linked, String> {
+    // SAFETY: it takes nothing.
+    match unsafe { cadnohal_abi() } {
+        ABI => Ok(&Linked),
+        other => Err(format!("libcadnohal.a has ABI {other}, not {ABI}")),
+    }
+}
 
 /// Pointer and length of a slice that is lent for reading.
 fn lend(slice: &Slice, null: bool) -> (Word, usize) {

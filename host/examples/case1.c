@@ -6,7 +6,7 @@
 #include "cadnohal.h"
 
 #define N CADNOHAL_N
-#define LENGTH(words) (sizeof(words) / sizeof((words)[0]))
+#define SLICE(array) {array, sizeof(array) / sizeof((array)[0])}
 
 int main(void)
 {
@@ -18,11 +18,20 @@ int main(void)
     };
     uint32_t type_map[2], override_map[1], expression_map[2];
 
-    cadnohal_answer a = cadnohal_compact(
-        types, LENGTH(types), NULL, 0, overrides, LENGTH(overrides), NULL, 0,
-        expressions, LENGTH(expressions), NULL, 0, NULL, 0, NULL, 0,
-        type_map, LENGTH(type_map), NULL, 0, override_map, LENGTH(override_map), NULL, 0,
-        expression_map, LENGTH(expression_map), 1);
+    if (cadnohal_abi() != CADNOHAL_ABI) {
+        fputs("cadnohal.h and libcadnohal.a don't belong together\n", stderr);
+        return 2;
+    }
+    /* What isn't named is an empty slice. */
+    const cadnohal_module module = {
+        .types = SLICE(types),
+        .overrides = SLICE(overrides),
+        .expressions = SLICE(expressions),
+        .type_map = SLICE(type_map),
+        .override_map = SLICE(override_map),
+        .expression_map = SLICE(expression_map),
+    };
+    cadnohal_answer a = cadnohal_compact_module(&module, 1);
 
     printf("1 %" PRIu32 " %" PRIu32 " %" PRIu32, a.number, a.area, a.record);
     printf(" %" PRIu32 " %" PRIu32 " %" PRIu32 " %" PRIu32, a.types, a.constants, a.overrides, a.globals);

@@ -153,6 +153,120 @@ static void refusals(void)
     hold(answers(a, (const uint32_t[10]){2, 7, 0, 0, 0, 0, 0, 0, 0, 0}), "number 2");
 }
 
+/* A module of slices that all differ in length, the maps exactly as long as they must be: where two of the thirteen
+ * are exchanged it is refused. With No type 2, expressions 3 and 4 and all globals but one go. */
+typedef struct {
+    uint32_t types[15], constants[8], overrides[4], globals[18], expressions[55];
+    uint32_t members[7], components[9], mentions[10];
+    uint32_t type_map[3], constant_map[2], override_map[1], global_map[6], expression_map[5];
+} distinct;
+
+static const distinct EACH = {
+    {0, 0, N, N, 10, 2, 0, 0, 0, 11, 3, 0, 0, 7, 12},
+    {0, 0, 0, 20, 1, 0, 0, 21},
+    {0, 0, 0, 30},
+    {0, N, 40, 1, N, 41, 2, N, 42, 0, 0, 43, 0, N, 44, 0, N, 45},
+    {EXPRESSION(0, N, N, N, 50), EXPRESSION(5, 0, N, N, 51), EXPRESSION(8, 0, 0, 4, 52), EXPRESSION(8, 0, 4, 5, 53),
+     EXPRESSION(0, N, N, N, 54)},
+    {0, 0, 1, 0, 1, 0, 0},
+    {0, 1, 1, 0, 0, 1, 2, 2, 1},
+    {4, 2, 3, 1, 0, 0, 1, 1, 4, 2},
+    {7, 7, 7},
+    {7, 7},
+    {7},
+    {7, 7, 7, 7, 7, 7},
+    {7, 7, 7, 7, 7},
+};
+
+#define SLICE(array) {array, LENGTH(array)}
+
+static cadnohal_module by_name(distinct *d)
+{
+    const cadnohal_module m = {
+        .types = SLICE(d->types),
+        .constants = SLICE(d->constants),
+        .overrides = SLICE(d->overrides),
+        .globals = SLICE(d->globals),
+        .expressions = SLICE(d->expressions),
+        .members = SLICE(d->members),
+        .components = SLICE(d->components),
+        .mentions = SLICE(d->mentions),
+        .type_map = SLICE(d->type_map),
+        .constant_map = SLICE(d->constant_map),
+        .override_map = SLICE(d->override_map),
+        .global_map = SLICE(d->global_map),
+        .expression_map = SLICE(d->expression_map),
+    };
+    return m;
+}
+
+/* Both functions over the struct answer and leave what the two in full do. Answers the number. */
+static uint32_t alike(distinct d, uint32_t keep_unused, const char *promise)
+{
+    const distinct before = d;
+    distinct full = d;
+    const cadnohal_module m = by_name(&d);
+    cadnohal_answer a = cadnohal_check(
+        full.types, 15, full.constants, 8, full.overrides, 4, full.globals, 18, full.expressions, 55, full.members, 7,
+        full.components, 9, full.mentions, 10, full.type_map, 3, full.constant_map, 2, full.override_map, 1,
+        full.global_map, 6, full.expression_map, 5);
+    cadnohal_answer b = cadnohal_check_module(&m);
+    hold(memcmp(&a, &b, sizeof a) == 0, promise);
+    hold(memcmp(&d, &before, sizeof d) == 0, promise);
+    a = cadnohal_compact(
+        full.types, 15, full.constants, 8, full.overrides, 4, full.globals, 18, full.expressions, 55, full.members, 7,
+        full.components, 9, full.mentions, 10, full.type_map, 3, full.constant_map, 2, full.override_map, 1,
+        full.global_map, 6, full.expression_map, 5, keep_unused);
+    b = cadnohal_compact_module(&m, keep_unused);
+    hold(memcmp(&a, &b, sizeof a) == 0, promise);
+    hold(memcmp(&d, &full, sizeof d) == 0, promise);
+    hold((memcmp(&d, &before, sizeof d) == 0) == (b.number != 0), promise);
+    return b.number;
+}
+
+/* Two slices exchanged, whichever they are, are refused, where the slices in their places are not. */
+static void exchanged(void)
+{
+    distinct d = EACH;
+    cadnohal_module m = by_name(&d);
+    cadnohal_slice *const fields[] = {
+        &m.types, &m.constants, &m.overrides, &m.globals, &m.expressions, &m.members, &m.components, &m.mentions,
+        &m.type_map, &m.constant_map, &m.override_map, &m.global_map, &m.expression_map,
+    };
+    hold(sizeof m == LENGTH(fields) * sizeof *fields[0], "each slice of the struct is tried");
+    for (size_t i = 0; i < LENGTH(fields); i++) {
+        for (size_t j = 0; j < i; j++) {
+            const cadnohal_slice other = *fields[i];
+            *fields[i] = *fields[j];
+            *fields[j] = other;
+            hold(cadnohal_check_module(&m).number != 0, "a check of exchanged slices is refused");
+            hold(cadnohal_compact_module(&m, 0).number != 0, "a pass over exchanged slices is refused");
+            m = by_name(&d);
+        }
+    }
+    hold(cadnohal_check_module(&m).number == 0, "the slices in their places pass");
+}
+
+static void named(void)
+{
+    static const uint32_t zero[10], kept_no[10] = {0, 0, 0, 2, 2, 1, 1, 3, 0, 4};
+    const cadnohal_module none = {0};
+    hold(answers(cadnohal_check_module(&none), zero), "a struct of {0} is a module of empty slices");
+    hold(answers(cadnohal_compact_module(&none, 1), zero), "and in a pass");
+    distinct d = EACH;
+    const cadnohal_module m = by_name(&d);
+    hold(answers(cadnohal_compact_module(&m, 0), kept_no), "the counts by name");
+    hold(alike(EACH, 0, "by name with No") == 0, "accepted");
+    hold(alike(EACH, 1, "by name with Yes") == 0, "accepted");
+    d = EACH;
+    d.members[6] = 3;
+    hold(alike(d, 0, "by name, number 6") == 6, "number 6");
+    d = EACH;
+    d.mentions[8] = 5;
+    hold(alike(d, 1, "by name, number 4") == 4, "number 4");
+    exchanged();
+}
+
 static void adjusts(const uint32_t *map, size_t length, uint32_t handle, uint32_t number, uint32_t want)
 {
     cadnohal_adjusted a = cadnohal_adjust(map, length, handle);
@@ -189,8 +303,10 @@ static void maps(void)
 
 int main(void)
 {
+    hold(cadnohal_abi() == CADNOHAL_ABI, "header and archive belong together");
     accepted();
     refusals();
+    named();
     maps();
     printf("header: %u of %u promises kept\n", asked - broken, asked);
     return broken == 0 ? 0 : 1;

@@ -7,13 +7,17 @@ ghost use Rattle.definitions.specs.MapEntries.{lookup, adjust, range};
 ghost use Rattle.arena.specs.Lent.{given, areas, maps, over};
 ghost use Rattle.faults.specs.Checking.{reportOf};
 ghost use Rattle.compact.specs.Answer.{keepOf};
-ghost use Rattle.cadnohal.specs.Boundary.{keepWord, placed, answerOf, answerTo, outcomeIn, adjustedIn, rangedIn};
+ghost use Rattle.cadnohal.specs.Boundary.{abi, keepWord, placed};
+ghost use Rattle.cadnohal.specs.Boundary.{answerOf, answerTo, outcomeIn, adjustedIn, rangedIn};
 use arena::N;
 use compact::Compacted;
 use compact::KeepUnused;
 use faults::Verdict;
 use handle_map::Adjusted;
 use handle_map::Ranged;
+
+// `CADNOHAL_ABI` of the header.
+pub const ABI: u32 = 1;
 
 // `cadnohal_answer`: where a module was refused and why, or how many records of areas 0 to 6 were kept.
 #[repr(C)]
@@ -43,6 +47,14 @@ pub struct RangeAnswer {
     pub number: u32,
     pub start: u32,
     pub end: u32,
+}
+
+// The number of this boundary's form, for a host to hold against its header's.
+#[no_mangle]
+pub extern "C" fn cadnohal_abi() -> u32
+    ensures { λ r. ⌜ r ≡ abi ⌝ }
+{
+    ABI
 }
 
 // 0 is `KeepUnused::No`, any other word is Yes.

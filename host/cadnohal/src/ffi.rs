@@ -1,7 +1,10 @@
-//! The C boundary: the library's five functions, each behind a safe one. All unsafe code is here.
+//! The C boundary: the library's six functions, each behind a safe one. All unsafe code is here.
 
 use crate::compact::Counts;
-use std::ops::Range;
+use std::{ops::Range, sync::OnceLock};
+
+/// The form of the C boundary that this crate calls: `CADNOHAL_ABI` of the header that it goes by.
+pub const ABI: u32 = 1;
 
 /// `cadnohal_answer`: number and place of a refusal, or three zeros and the seven counts.
 #[repr(C)]
@@ -30,6 +33,8 @@ struct Ranged {
 
 #[rustfmt::skip]
 extern "C" {
+    fn cadnohal_abi() -> u32;
+
     fn cadnohal_compact(
         types: *mut u32, types_length: usize,
         constants: *mut u32, constants_length: usize,
@@ -68,11 +73,38 @@ extern "C" {
     fn cadnohal_adjust_range(map: *const u32, map_length: usize, start: u32, end: u32) -> Ranged;
 }
 
+/// The form of the C boundary that the linked library has. Before any other call the crate asserts
+/// that this is [`ABI`], so a program panics that was linked with a library of another form, and
+/// before the library has touched a word.
+///
+/// ```
+/// assert_eq!(cadnohal::abi(), cadnohal::ABI);
+/// ```
+pub fn abi() -> u32 {
+    // SAFETY: it takes nothing and answers a word, whatever the form of the others.
+    unsafe { cadnohal_abi() }
+}
+
+/// Panics where the library has another form, since it would read its arguments wrongly. The
+/// library is asked once.
+fn linked() {
+    static LIBRARY: OnceLock<u32> = OnceLock::new();
+    same_form(*LIBRARY.get_or_init(abi));
+}
+
+fn same_form(library: u32) {
+    assert_eq!(
+        library, ABI,
+        "libcadnohal.a and the crate cadnohal don't belong together: their ABIs differ"
+    );
+}
+
 /// Compacts the eight areas and writes the five maps; `keep_unused` is 0 for No, else Yes.
 #[rustfmt::skip]
 pub(crate) fn compact(areas: [&mut [u32]; 8], maps: [&mut [u32]; 5], keep_unused: u32) -> Answer {
     let [a0, a1, a2, a3, a4, a5, a6, a7] = areas;
     let [m0, m1, m2, m3, m4] = maps;
+    linked();
     // SAFETY: each pointer is good for reads and writes of its length, and exclusive borrows don't
     // overlap. An empty slice's pointer dangles; with length 0 it is never followed.
     unsafe {
@@ -100,6 +132,7 @@ pub(crate) fn compact(areas: [&mut [u32]; 8], maps: [&mut [u32]; 5], keep_unused
 pub(crate) fn check(areas: [&[u32]; 8], maps: [&[u32]; 5]) -> Answer {
     let [a0, a1, a2, a3, a4, a5, a6, a7] = areas;
     let [m0, m1, m2, m3, m4] = maps;
+    linked();
     // SAFETY: each pointer is good for reads of its length, and nothing is written. An empty
     // slice's pointer dangles; with length 0 it is never followed.
     unsafe {
@@ -123,12 +156,14 @@ pub(crate) fn check(areas: [&[u32]; 8], maps: [&[u32]; 5]) -> Answer {
 
 /// The new handle, or N where it was dropped or lies past the end.
 pub(crate) fn lookup(map: &[u32], handle: u32) -> u32 {
+    linked();
     // SAFETY: the pointer is good for reads of the map's length, 0 included.
     unsafe { cadnohal_lookup(map.as_ptr(), map.len(), handle) }
 }
 
 /// The new handle, or number 8 or 9.
 pub(crate) fn adjust(map: &[u32], handle: u32) -> Result<u32, u32> {
+    linked();
     // SAFETY: the pointer is good for reads of the map's length, 0 included.
     let answer = unsafe { cadnohal_adjust(map.as_ptr(), map.len(), handle) };
     match answer.number {
@@ -139,6 +174,7 @@ pub(crate) fn adjust(map: &[u32], handle: u32) -> Result<u32, u32> {
 
 /// The range of the new handles, or number 8.
 pub(crate) fn adjust_range(map: &[u32], range: &Range<u32>) -> Result<Range<u32>, u32> {
+    linked();
     // SAFETY: the pointer is good for reads of the map's length, 0 included.
     let answer = unsafe { cadnohal_adjust_range(map.as_ptr(), map.len(), range.start, range.end) };
     match answer.number {
@@ -161,6 +197,25 @@ mod tests {
         assert_eq!(size_of::<Answer>(), 40);
         assert_eq!(size_of::<Adjusted>(), 8);
         assert_eq!(size_of::<Ranged>(), 12);
+    }
+
+    #[test]
+    fn the_library_has_the_form_of_header_and_crate() {
+        let header = include_str!("../../../include/cadnohal.h");
+        let defined = |name: &str| {
+            let mut lines = header.lines();
+            lines.find_map(|line| line.strip_prefix("#define ")?.strip_prefix(name))
+        };
+        assert_eq!(defined("CADNOHAL_ABI "), Some(&*ABI.to_string()));
+        let version = format!("\"{}\"", env!("CARGO_PKG_VERSION"));
+        assert_eq!(defined("CADNOHAL_VERSION "), Some(&*version));
+        assert_eq!(abi(), ABI);
+    }
+
+    #[test]
+    #[should_panic(expected = "don't belong together")]
+    fn a_library_of_another_form_is_not_called() {
+        same_form(ABI + 1);
     }
 
     #[test]

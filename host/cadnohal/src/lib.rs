@@ -15,6 +15,7 @@ mod words;
 
 pub use compact::{Compacted, Counts, KeepUnused, Maps};
 pub use expression::{Expression, ImageQuery, SampleLevel};
+pub use ffi::{abi, ABI};
 pub use handle::{
     ConstantHandle, Element, ExpressionHandle, GlobalHandle, Handle, OverrideHandle, TypeHandle,
 };

@@ -69,7 +69,7 @@ usage: cadnohal compact [--keep-unused] [--maps] FILE|-
   graph      draw who refers to whom, for Graphviz
 
   --help     this text; after a command, more about it
-  --version  the version
+  --version  the version, and the ABI of its library
 
 FILE is a module's text; - is standard input.
 
@@ -166,7 +166,8 @@ pub fn parse(arguments: impl IntoIterator<Item = OsString>) -> Result<Request, F
         Some("--help" | "-h") => return Ok(Request::Say(HELP.into())),
         Some("--version" | "-V") => {
             let version = env!("CARGO_PKG_VERSION");
-            return Ok(Request::Say(format!("cadnohal {version}\n")));
+            let abi = cadnohal::abi();
+            return Ok(Request::Say(format!("cadnohal {version}, ABI {abi}\n")));
         }
         _ => {}
     }

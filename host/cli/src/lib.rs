@@ -18,7 +18,8 @@ use std::{
 
 /// Does what the arguments after the program's name ask for and answers the exit status.
 pub fn run(arguments: impl IntoIterator<Item = OsString>) -> u8 {
-    let done = args::parse(arguments)
+    let done = linked()
+        .and_then(|()| args::parse(arguments))
         .and_then(commands::execute)
         .and_then(|text| put(&text));
     match done {
@@ -28,6 +29,17 @@ pub fn run(arguments: impl IntoIterator<Item = OsString>) -> u8 {
             let _ = writeln!(io::stderr(), "{failure}");
             failure.status()
         }
+    }
+}
+
+/// Whether the library that was linked is the one that this program is built for.
+fn linked() -> Result<(), Failure> {
+    match cadnohal::abi() {
+        cadnohal::ABI => Ok(()),
+        abi => Err(Failure::Internal(format!(
+            "cadnohal: the library's ABI is {abi}, this program's is {}",
+            cadnohal::ABI
+        ))),
     }
 }
 

@@ -172,8 +172,13 @@ fn help_and_version() {
         assert!(out.starts_with(begins), "{arguments:?}\n{out}");
         assert!(out.lines().all(|line| line.len() <= 80), "{out}");
     }
-    assert_eq!(run(&["--version"], ""), done(0, "cadnohal 0.1.0\n", ""));
-    assert_eq!(run(&["-V"], ""), done(0, "cadnohal 0.1.0\n", ""));
+    let version = format!(
+        "cadnohal {}, ABI {}\n",
+        env!("CARGO_PKG_VERSION"),
+        cadnohal::ABI
+    );
+    assert_eq!(run(&["--version"], ""), done(0, &version, ""));
+    assert_eq!(run(&["-V"], ""), done(0, &version, ""));
 }
 
 #[test]
