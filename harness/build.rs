@@ -1,7 +1,8 @@
 //! Lays out the published compactor for the library target and finds the static library.
 //!
 //! The published files are copied byte for byte. Only the files that the published text names and that
-//! are not in it are taken from `src/standin/arena`.
+//! are not in it are taken from `src/standin/arena`. Over the crate itself (`crate/Cargo.toml`) nothing
+//! is laid out.
 
 use std::env;
 use std::fs;
@@ -24,12 +25,25 @@ const PUBLISHED: [&str; 9] = [
 const STANDINS: [&str; 4] = ["handle.rs", "handlevec.rs", "range.rs", "unique_arena.rs"];
 
 fn main() {
-    let here = PathBuf::from(env::var("CARGO_MANIFEST_DIR").unwrap());
+    let manifest = PathBuf::from(env::var("CARGO_MANIFEST_DIR").unwrap());
     let out = PathBuf::from(env::var("OUT_DIR").unwrap());
-    println!("cargo:rerun-if-changed=build.rs");
-    println!("cargo:rerun-if-env-changed=NAGA_SRC");
-    println!("cargo:rerun-if-env-changed=CADNOHAL_LIB_DIR");
-    lay_out_published(&here, &out);
+    for variable in ["NAGA_SRC", "NAGA_CRATE_SRC", "CADNOHAL_LIB_DIR"] {
+        println!("cargo:rerun-if-env-changed={variable}");
+    }
+    let over_the_crate = env::var_os("CARGO_FEATURE_CRATE").is_some();
+    let here = if over_the_crate {
+        manifest.parent().unwrap().to_path_buf()
+    } else {
+        manifest
+    };
+    println!("cargo:rerun-if-changed={}", here.join("build.rs").display());
+    println!("cargo:rustc-env=HARNESS={}", here.display());
+    if over_the_crate {
+        println!("cargo:rustc-cfg=published");
+        tell_crate(&here);
+    } else {
+        lay_out_published(&here, &out);
+    }
     link_library(&here);
 }
 
@@ -64,7 +78,32 @@ fn lay_out_published(here: &Path, out: &Path) {
     }
     put(&out.join("published.rs"), modules(&tree).as_bytes());
     println!("cargo:rustc-cfg=published");
+    println!("cargo:rustc-cfg=files");
     println!("cargo:rustc-env=PUBLISHED_TEXT={}", print.line());
+}
+
+/// Tells of the crate's `compact/`, where the crate's sources are known, whether it is the published text.
+fn tell_crate(here: &Path) {
+    let Some(source) = env::var_os("NAGA_CRATE_SRC").map(PathBuf::from) else {
+        return;
+    };
+    let published = folder(here, "NAGA_SRC", "../../shared/docs/src");
+    let (mut print, mut same) = (Print::new(), true);
+    for file in PUBLISHED.iter().filter(|file| file.starts_with("compact/")) {
+        println!("cargo:rerun-if-changed={}", source.join(file).display());
+        let text = fs::read(source.join(file)).unwrap();
+        print.take(&text);
+        same &= fs::read(published.join(file)).is_ok_and(|other| other == text);
+    }
+    let told = if same {
+        "byte for byte the published text"
+    } else {
+        "not held against the published text, which is not here or is another"
+    };
+    println!(
+        "cargo:rustc-env=PUBLISHED_TEXT=compact/ {}, {told}",
+        print.line()
+    );
 }
 
 /// The modules of the published text. `handle_set_map.rs` stands there twice: once inside `compact`,

@@ -3,20 +3,17 @@
 //! Each element carries its old number in its span, and a second time in its name, its mark or its
 //! literal where it has one. So the maps can be read off the module after the pass.
 
-use crate::flat::{self, *};
+use crate::flat::*;
+use crate::handles::{ends, global, handle, option, option_word, word, HIGHEST};
 use crate::rng::Rng;
 use crate::roads::{self, Laid, Road};
-use published::{
-    Any, Arena, ArraySize, BinaryOperator, Constant, CooperativeData, DocComments, Expression,
-    FastIndexMap, GlobalVariable, Handle, ImageQuery, Literal, Module, Override, SampleLevel,
-    Scalar, ScalarKind, Span, StructMember, Type, TypeInner, VectorSize,
+use crate::types;
+use naga::{
+    Arena, BinaryOperator, Constant, CooperativeData, CooperativeRole, CooperativeSize,
+    DerivativeAxis, DerivativeControl, DocComments, Expression, FastIndexMap, Handle, ImageQuery,
+    Literal, MathFunction, Module, Override, RelationalFunction, SampleLevel, ScalarKind, Span,
+    SwizzleComponent, UnaryOperator, VectorSize,
 };
-
-/// The first mark of a type: below it lie the widths of the scalars that have names.
-const FIRST_MARK: u32 = 16;
-
-/// Handles above this are not handed to the published compactor, whose sets would grow as far.
-const HIGHEST: u32 = 1 << 16;
 
 /// A module for the published compactor and where its mentions went.
 pub struct Built {
@@ -24,22 +21,6 @@ pub struct Built {
     pub laid: Laid,
     /// The type that is the scalar u32, if any.
     stage_type: Option<usize>,
-}
-
-pub fn handle<T>(word: u32) -> Handle<T> {
-    Handle::from_usize(word as usize)
-}
-
-pub fn word<T>(handle: Handle<T>) -> u32 {
-    handle.index() as u32
-}
-
-fn option<T>(word: u32) -> Option<Handle<T>> {
-    (word != N).then(|| handle(word))
-}
-
-fn option_word<T>(given: Option<Handle<T>>) -> u32 {
-    given.map_or(N, word)
 }
 
 fn name_of(named: bool, old: usize) -> Option<String> {
@@ -73,12 +54,10 @@ pub fn holdable(flat: &Flat) -> bool {
 pub fn build(flat: &Flat, keep: bool, chosen: &[Road], rng: &mut Rng) -> Built {
     let stage_type = (chosen.iter().position(|road| *road == Road::Stage))
         .map(|mention| flat.record(MENTIONS, mention)[1] as usize);
-    let mut module = Module::default();
-    for place in 0..flat.records(TYPES) {
-        let ty = type_from(flat, place, stage_type == Some(place), rng);
-        let given = module.types.insert(ty, span_of(place));
-        assert_eq!(given.index(), place, "each type is its own");
-    }
+    let mut module = Module {
+        types: types::arena(flat, stage_type, rng),
+        ..Module::default()
+    };
     for (old, record) in flat.areas[CONSTANTS].chunks(4).enumerate() {
         let constant = Constant {
             name: name_of(record[0] == 1, old),
@@ -90,18 +69,14 @@ pub fn build(flat: &Flat, keep: bool, chosen: &[Road], rng: &mut Rng) -> Built {
     for (old, record) in flat.areas[OVERRIDES].chunks(4).enumerate() {
         let item = Override {
             name: name_of(record[0] == 1, old),
-            id: rng.one_in(2).then_some(old as u32),
+            id: rng.one_in(2).then_some(old as u16),
             ty: handle(record[1]),
             init: option(record[2]),
         };
         module.overrides.append(item, span_of(old));
     }
     for (old, record) in flat.areas[GLOBALS].chunks(3).enumerate() {
-        let global = GlobalVariable {
-            name: name_of(rng.one_in(2), old),
-            ty: handle(record[0]),
-            init: option(record[1]),
-        };
+        let global = global(name_of(rng.one_in(2), old), record[0], option(record[1]));
         module.global_variables.append(global, span_of(old));
     }
     for place in 0..flat.records(EXPRESSIONS) {
@@ -162,86 +137,6 @@ fn read_comments(module: &Module, after: &After) -> Result<(), String> {
     ))
 }
 
-fn type_from(flat: &Flat, place: usize, stage: bool, rng: &mut Rng) -> Type {
-    let record = flat.record(TYPES, place);
-    let named = record[1] & NAMED != 0;
-    let is_abstract = record[1] & flat::ABSTRACT != 0;
-    let mark = FIRST_MARK + place as u32 + if is_abstract { published::ABSTRACT } else { 0 };
-    let inner = match record[0] {
-        0 if stage => TypeInner::Scalar(Scalar::U32),
-        0 => leaf(mark, rng),
-        1 => based(handle(record[2]), mark, rng),
-        2 => {
-            let base = handle(record[2]);
-            let size = ArraySize::Pending(handle(record[3]));
-            // Only its name tells such a binding array from its equals.
-            if named && !is_abstract && rng.one_in(2) {
-                TypeInner::BindingArray { base, size }
-            } else {
-                let stride = mark;
-                TypeInner::Array { base, size, stride }
-            }
-        }
-        _ => {
-            let (start, count) = (record[2] as usize, record[3] as usize);
-            let run = flat.areas[MEMBERS][start..start + count].iter();
-            let members = run.map(|ty| StructMember { ty: handle(*ty) }).collect();
-            TypeInner::Struct {
-                members,
-                span: mark,
-            }
-        }
-    };
-    Type {
-        name: name_of(named, place),
-        inner,
-    }
-}
-
-/// A type without handles.
-fn leaf(mark: u32, rng: &mut Rng) -> TypeInner {
-    let kinds = [
-        ScalarKind::Bool,
-        ScalarKind::Sint,
-        ScalarKind::Uint,
-        ScalarKind::Float,
-    ];
-    let scalar = Scalar::new(*rng.pick(&kinds), mark);
-    let size = *rng.pick(&[VectorSize::Bi, VectorSize::Tri, VectorSize::Quad]);
-    match rng.below(10) {
-        0 => TypeInner::Scalar(scalar),
-        1 => TypeInner::Vector { size, scalar },
-        2 => TypeInner::Matrix { scalar },
-        3 => TypeInner::CooperativeMatrix { scalar },
-        4 => TypeInner::Atomic(scalar),
-        5 => TypeInner::ValuePointer { space: mark },
-        6 => TypeInner::Image { class: mark },
-        7 => TypeInner::Sampler { class: mark },
-        8 => TypeInner::AccelerationStructure { class: mark },
-        _ => TypeInner::RayQuery { class: mark },
-    }
-}
-
-/// A type with a base and no override.
-fn based(base: Handle<Type>, mark: u32, rng: &mut Rng) -> TypeInner {
-    let stride = mark;
-    match rng.below(4) {
-        0 => TypeInner::Pointer { base, space: mark },
-        1 => {
-            let size = ArraySize::Constant(7);
-            TypeInner::Array { base, size, stride }
-        }
-        2 => {
-            let size = ArraySize::Dynamic;
-            TypeInner::Array { base, size, stride }
-        }
-        _ => {
-            let size = ArraySize::Constant(mark);
-            TypeInner::BindingArray { base, size }
-        }
-    }
-}
-
 fn expression_from(flat: &Flat, place: usize) -> Expression {
     use Expression as Ex;
     let record = flat.record(EXPRESSIONS, place);
@@ -281,7 +176,7 @@ fn expression_from(flat: &Flat, place: usize) -> Expression {
         12 => Ex::Swizzle {
             size: VectorSize::Bi,
             vector: needed(0),
-            pattern: Any::One,
+            pattern: [SwizzleComponent::X; 4],
         },
         13 => Ex::GlobalVariable(handle(slot(0))),
         14 => Ex::Load { pointer: needed(0) },
@@ -326,7 +221,7 @@ fn expression_from(flat: &Flat, place: usize) -> Expression {
             committed: true,
         },
         19 => Ex::Unary {
-            op: Any::One,
+            op: UnaryOperator::Negate,
             expr: needed(0),
         },
         20 => Ex::Binary {
@@ -340,16 +235,16 @@ fn expression_from(flat: &Flat, place: usize) -> Expression {
             reject: needed(2),
         },
         22 => Ex::Derivative {
-            axis: Any::One,
-            ctrl: Any::One,
+            axis: DerivativeAxis::X,
+            ctrl: DerivativeControl::None,
             expr: needed(0),
         },
         23 => Ex::Relational {
-            fun: Any::One,
+            fun: RelationalFunction::All,
             argument: needed(0),
         },
         24 => Ex::Math {
-            fun: Any::One,
+            fun: MathFunction::Fma,
             arg: needed(0),
             arg1: maybe(1),
             arg2: maybe(2),
@@ -358,7 +253,7 @@ fn expression_from(flat: &Flat, place: usize) -> Expression {
         25 => Ex::As {
             expr: needed(0),
             kind: ScalarKind::Sint,
-            convert: Some(old),
+            convert: None,
         },
         26 => Ex::ArrayLength(needed(0)),
         27 => Ex::CallResult(handle(slot(0))),
@@ -377,10 +272,13 @@ fn expression_from(flat: &Flat, place: usize) -> Expression {
             committed: false,
         },
         32 => Ex::CooperativeLoad {
-            columns: VectorSize::Tri,
+            columns: CooperativeSize::Eight,
+            rows: CooperativeSize::Sixteen,
+            role: CooperativeRole::A,
             data: CooperativeData {
                 pointer: needed(0),
                 stride: needed(1),
+                row_major: false,
             },
         },
         _ => Ex::CooperativeMultiplyAdd {
@@ -424,7 +322,7 @@ fn place<'a>(
     span: Span,
     new: usize,
 ) -> Result<&'a [u32], String> {
-    let old = span.start as usize;
+    let old = ends(span).0 as usize;
     match after.maps[area].get_mut(old) {
         Some(word) if *word == N => *word = new as u32,
         _ => return Err(format!("{} at {new}: old number {old}", AREAS[area])),
@@ -450,42 +348,32 @@ fn read_types(flat: &Flat, built: &Built, after: &mut After) -> Result<(), Strin
     let types = &built.module.types;
     for (at, ty) in types.iter() {
         let span = types.get_span(at);
-        let tag = place(flat, after, TYPES, span, at.index())?[4];
-        same(TYPES, span.start, named_mark(&ty.name))?;
-        let mark = ty.inner.mark() & !published::ABSTRACT;
-        same(TYPES, span.start, mark.checked_sub(FIRST_MARK))?;
-        let is_abstract = ty.inner.is_abstract(types);
-        let flags = u32::from(ty.name.is_some()) + if is_abstract { flat::ABSTRACT } else { 0 };
-        let [kind, a, b] = type_words(&ty.inner, &mut after.areas[MEMBERS]);
+        let (tag, old) = (
+            place(flat, after, TYPES, span, at.index())?[4],
+            ends(span).0,
+        );
+        same(TYPES, old, named_mark(&ty.name))?;
+        if !types::carries(&ty.inner, old) {
+            return Err(format!("type {old} is {:?}", ty.inner));
+        }
+        // Of an array of itself, which only a refused module has, the crate's `is_abstract` has no end.
+        let is_abstract = if types::has_an_end(flat, old as usize) {
+            ty.inner.is_abstract(types)
+        } else {
+            flat.record(TYPES, old as usize)[1] & ABSTRACT != 0
+        };
+        let flags = u32::from(ty.name.is_some()) + if is_abstract { ABSTRACT } else { 0 };
+        let [kind, a, b] = types::words(&ty.inner, &mut after.areas[MEMBERS]);
         after.areas[TYPES].extend([kind, flags, a, b, tag]);
     }
     Ok(())
-}
-
-/// Kind, a and b; the members go to the pool.
-fn type_words(inner: &TypeInner, members_after: &mut Vec<u32>) -> [u32; 3] {
-    match *inner {
-        TypeInner::Pointer { base, .. } => [1, word(base), N],
-        TypeInner::Array { base, size, .. } | TypeInner::BindingArray { base, size } => {
-            match size {
-                ArraySize::Pending(item) => [2, word(base), word(item)],
-                ArraySize::Constant(_) | ArraySize::Dynamic => [1, word(base), N],
-            }
-        }
-        TypeInner::Struct { ref members, .. } => {
-            let start = members_after.len() as u32;
-            members_after.extend(members.iter().map(|member| word(member.ty)));
-            [3, start, members.len() as u32]
-        }
-        _ => [0, N, N],
-    }
 }
 
 fn read_constants(flat: &Flat, module: &Module, after: &mut After) -> Result<(), String> {
     for (at, item) in module.constants.iter() {
         let span = module.constants.get_span(at);
         let tag = place(flat, after, CONSTANTS, span, at.index())?[3];
-        same(CONSTANTS, span.start, named_mark(&item.name))?;
+        same(CONSTANTS, ends(span).0, named_mark(&item.name))?;
         let named = u32::from(item.name.is_some());
         after.areas[CONSTANTS].extend([named, word(item.ty), word(item.init), tag]);
     }
@@ -496,8 +384,8 @@ fn read_overrides(flat: &Flat, module: &Module, after: &mut After) -> Result<(),
     for (at, item) in module.overrides.iter() {
         let span = module.overrides.get_span(at);
         let tag = place(flat, after, OVERRIDES, span, at.index())?[3];
-        same(OVERRIDES, span.start, named_mark(&item.name))?;
-        same(OVERRIDES, span.start, item.id)?;
+        same(OVERRIDES, ends(span).0, named_mark(&item.name))?;
+        same(OVERRIDES, ends(span).0, item.id.map(u32::from))?;
         let named = u32::from(item.name.is_some());
         after.areas[OVERRIDES].extend([named, word(item.ty), option_word(item.init), tag]);
     }
@@ -508,7 +396,7 @@ fn read_globals(flat: &Flat, module: &Module, after: &mut After) -> Result<(), S
     for (at, item) in module.global_variables.iter() {
         let span = module.global_variables.get_span(at);
         let tag = place(flat, after, GLOBALS, span, at.index())?[2];
-        same(GLOBALS, span.start, named_mark(&item.name))?;
+        same(GLOBALS, ends(span).0, named_mark(&item.name))?;
         after.areas[GLOBALS].extend([word(item.ty), option_word(item.init), tag]);
     }
     Ok(())
@@ -519,7 +407,7 @@ fn read_expressions(flat: &Flat, module: &Module, after: &mut After) -> Result<(
     for (at, expression) in arena.iter() {
         let span = arena.get_span(at);
         let tag = place(flat, after, EXPRESSIONS, span, at.index())?[10];
-        same(EXPRESSIONS, span.start, expression_mark(expression))?;
+        same(EXPRESSIONS, ends(span).0, expression_mark(expression))?;
         let mut record = [N; 11];
         record[10] = tag;
         expression_words(expression, &mut record, &mut after.areas[COMPONENTS]);
@@ -534,7 +422,6 @@ fn expression_mark(expression: &Expression) -> Option<u32> {
         Expression::Literal(Literal::U32(old)) | Expression::FunctionArgument(old) => Some(old),
         Expression::LocalVariable(handle) => Some(word(handle)),
         Expression::AccessIndex { index, .. } => Some(index),
-        Expression::As { convert, .. } => convert,
         _ => None,
     }
 }

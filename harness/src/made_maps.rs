@@ -5,7 +5,7 @@ use crate::library::Library;
 use crate::report::{Counted, Stats};
 use crate::rng::Rng;
 use crate::rust::caught;
-use published::map_alone::MapAlone;
+use naga::map_alone::MapAlone;
 
 /// Asks the library and the published map about handles and ranges in and out of range. Where the
 /// published map panics, the library must refuse; where only the library refuses, document 01 says so.

@@ -12,8 +12,10 @@ mod expect;
 mod ffi;
 mod flat;
 mod generate;
-mod library;
 #[cfg(published)]
+mod handles;
+mod library;
+#[cfg(files)]
 mod made_maps;
 mod maps;
 #[cfg(published)]
@@ -32,6 +34,8 @@ mod tests;
 mod text;
 #[cfg(published)]
 mod time;
+#[cfg(published)]
+mod types;
 #[cfg(published)]
 mod uses;
 

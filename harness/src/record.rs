@@ -78,6 +78,7 @@ fn accepted(
         Outcome::Panicked(why) | Outcome::Garbled(why) => {
             return Err(format!("case {}: {why}", case.number));
         }
+        Outcome::Endless => return Err(format!("case {}: would not come back", case.number)),
     };
     let answer = Answer {
         counts: after.counts,

@@ -43,7 +43,7 @@ fn first_difference(got: &str, wanted: &str) -> Option<String> {
 }
 
 /// Where the recorded answers stand: beside the program that reads them.
-pub const RECORDED: &str = concat!(env!("CARGO_MANIFEST_DIR"), "/../crates/cases/answers");
+pub const RECORDED: &str = concat!(env!("HARNESS"), "/../crates/cases/answers");
 
 /// The recorded files.
 pub fn recorded_files() -> Vec<PathBuf> {

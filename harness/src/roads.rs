@@ -4,14 +4,14 @@
 //! Beside the mentions lie decoys, which must not matter: own expressions that nothing uses and, under
 //! No, functions that nothing calls.
 
-use crate::convert::{handle, word};
 use crate::flat::*;
+use crate::handles::{ends, handle, word, Numbered};
 use crate::rng::Rng;
 use crate::uses;
-use published::{
+use naga::{
     EntryPoint, Expression, Function, FunctionArgument, FunctionResult, Handle, LocalVariable,
-    MeshStageInfo, Module, PredeclaredType, Range, ShaderStage, Span, SpecialTypes, Statement,
-    Type,
+    MeshOutputTopology, MeshStageInfo, Module, PredeclaredType, Range, Scalar, ScalarKind,
+    ShaderStage, Span, SpecialTypes, Statement, Type, VectorSize,
 };
 
 /// A field or an expression that can name an element.
@@ -262,26 +262,19 @@ impl Layer<'_> {
 
     /// One more entry point.
     fn entry(&mut self) -> usize {
-        let stages = [
-            ShaderStage::Vertex,
-            ShaderStage::Fragment,
-            ShaderStage::Compute,
-            ShaderStage::Task,
-            ShaderStage::Mesh,
-        ];
-        self.entries.push(EntryPoint {
-            stage: *self.rng.pick(&stages),
-            workgroup_size_overrides: self.rng.one_in(4).then_some([None; 3]),
-            function: Function::default(),
-            task_payload: None,
-            mesh_info: None,
-        });
+        let mut entry = bare_entry(*self.rng.pick(&STAGES));
+        entry.workgroup_size_overrides = self.rng.one_in(4).then_some([None; 3]);
+        let globals = self.flat.records(GLOBALS);
+        if globals > 0 && self.rng.one_in(4) {
+            entry.incoming_ray_payload = Some(handle(self.rng.below32(globals)));
+        }
+        self.entries.push(entry);
         self.arguments[0].push(Vec::new());
         self.entries.len() - 1
     }
 
     /// The handle that a mention names.
-    fn named<T>(&self, mention: usize) -> Handle<T> {
+    fn named<T: Numbered>(&self, mention: usize) -> Handle<T> {
         handle(self.flat.record(MENTIONS, mention)[1])
     }
 
@@ -292,11 +285,14 @@ impl Layer<'_> {
         for (output, (vertex, primitive)) in all(Road::MeshOutput).zip(types) {
             let entry = self.entry();
             self.entries[entry].mesh_info = Some(MeshStageInfo {
-                output_variable: self.named(output),
+                topology: MeshOutputTopology::Triangles,
+                max_vertices: 3,
+                max_vertices_override: None,
+                max_primitives: 1,
+                max_primitives_override: None,
                 vertex_output_type: self.named(vertex),
                 primitive_output_type: self.named(primitive),
-                max_vertices_override: None,
-                max_primitives_override: None,
+                output_variable: self.named(output),
             });
             for mention in [output, vertex, primitive] {
                 self.ways[mention] = Way::Entry(roads[mention], entry, 0);
@@ -316,7 +312,7 @@ impl Layer<'_> {
                 Way::Special(road)
             }
             Road::Predeclared => {
-                let (key, ty) = (PredeclaredType(mention as u32), self.named(mention));
+                let (key, ty) = (predeclared(mention), self.named(mention));
                 self.special.predeclared_types.insert(key, ty);
                 Way::Predeclared
             }
@@ -357,7 +353,7 @@ impl Layer<'_> {
         let function = self.function(holder);
         match road {
             Road::Argument => {
-                function.arguments.push(FunctionArgument { ty });
+                function.arguments.push(argument(ty));
                 Way::Argument(holder, function.arguments.len() - 1)
             }
             Road::Result => {
@@ -516,7 +512,7 @@ impl Layer<'_> {
                 None => (Holder::Entry(pick), &mut self.arguments[0][pick]),
             };
             let arguments = std::mem::take(arguments);
-            let target: Handle<Function> = Handle::from_usize(place.expect("it is in the order"));
+            let target = handle(place.expect("it is in the order") as u32);
             let with_result = self.rng.one_in(2);
             let caller = self.function(holder);
             let result =
@@ -557,7 +553,8 @@ impl Layer<'_> {
         let own = self.function(holder).expressions.len();
         let start = self.rng.below(own + 1) as u32;
         let end = self.rng.between(start as usize, own) as u32;
-        let emit = Statement::Emit(Range::from_ends(start..end));
+        let arena = &self.function(holder).expressions;
+        let emit = Statement::Emit(Range::from_index_range(start..end, arena));
         self.function(holder).body.push(emit, Span::default());
         self.emits.push(Emit {
             holder,
@@ -591,9 +588,67 @@ impl Layer<'_> {
         let types = self.flat.records(TYPES);
         if types > 0 {
             let ty = handle(self.rng.below32(types));
-            function.arguments.push(FunctionArgument { ty });
+            function.arguments.push(argument(ty));
         }
         function
+    }
+}
+
+const STAGES: [ShaderStage; 9] = [
+    ShaderStage::Vertex,
+    ShaderStage::Fragment,
+    ShaderStage::Compute,
+    ShaderStage::Task,
+    ShaderStage::Mesh,
+    ShaderStage::RayGeneration,
+    ShaderStage::Miss,
+    ShaderStage::AnyHit,
+    ShaderStage::ClosestHit,
+];
+
+/// An entry point that names nothing.
+pub fn bare_entry(stage: ShaderStage) -> EntryPoint {
+    EntryPoint {
+        name: String::from("entry"),
+        stage,
+        early_depth_test: None,
+        workgroup_size: [1; 3],
+        workgroup_size_overrides: None,
+        function: Function::default(),
+        mesh_info: None,
+        task_payload: None,
+        incoming_ray_payload: None,
+    }
+}
+
+fn argument(ty: Handle<Type>) -> FunctionArgument {
+    FunctionArgument {
+        name: None,
+        ty,
+        binding: None,
+    }
+}
+
+/// The predeclared type that carries a mention's number.
+fn predeclared(mention: usize) -> PredeclaredType {
+    let kinds = [
+        ScalarKind::Bool,
+        ScalarKind::Sint,
+        ScalarKind::Uint,
+        ScalarKind::Float,
+    ];
+    let sizes = [
+        None,
+        Some(VectorSize::Bi),
+        Some(VectorSize::Tri),
+        Some(VectorSize::Quad),
+    ];
+    PredeclaredType::ModfResult {
+        size: sizes[mention / 1024],
+        scalar: Scalar {
+            kind: kinds[mention / 256 % 4],
+            width: (mention % 256) as u8,
+        },
     }
 }
 
@@ -663,7 +718,7 @@ impl<'a> Kept<'a> {
         let functions = &module.functions;
         let called = functions
             .iter()
-            .map(|(at, function)| (functions.get_span(at).start, function))
+            .map(|(at, function)| (ends(functions.get_span(at)).0, function))
             .collect();
         Kept { module, called }
     }
@@ -692,7 +747,7 @@ pub fn read(module: &Module, laid: &Laid, new_stage: Option<u32>) -> Result<Vec<
     let mut own = vec![N; laid.ways.len()];
     for function in kept.all() {
         for (at, expression) in function.expressions.iter() {
-            let mention = function.expressions.get_span(at).end;
+            let mention = ends(function.expressions.get_span(at)).1;
             if let (Some(place), Some(target)) =
                 (own.get_mut(mention as usize), own_target(expression))
             {
@@ -714,7 +769,7 @@ fn read_way(kept: &Kept, mention: usize, way: Way) -> Result<u32, String> {
     let found = match way {
         Way::Special(road) => read_special(types, road).map(word),
         Way::Predeclared => {
-            let key = PredeclaredType(mention as u32);
+            let key = predeclared(mention);
             types.predeclared_types.get(&key).map(|ty| word(*ty))
         }
         Way::Argument(holder, place) => {
@@ -727,7 +782,7 @@ fn read_way(kept: &Kept, mention: usize, way: Way) -> Result<u32, String> {
         }
         Way::Local(holder, place) => {
             let locals = &kept.function(holder)?.local_variables;
-            let local = locals.try_get(Handle::from_usize(place)).ok();
+            let local = locals.try_get(handle(place as u32)).ok();
             local.map(|local| word(local.ty))
         }
         Way::Entry(road, entry, place) => read_field(&kept.module.entry_points[entry], road, place),
@@ -766,7 +821,7 @@ pub fn adjusted(module: &Module, laid: &Laid) -> Result<Vec<Adjusted>, String> {
         let function = kept.function(emit.holder)?;
         let mut map = vec![N; emit.own];
         for (new, _) in function.expressions.iter() {
-            map[function.expressions.get_span(new).start as usize] = word(new);
+            map[ends(function.expressions.get_span(new)).0 as usize] = word(new);
         }
         let Some(Statement::Emit(range)) = function.body.last() else {
             return Err(String::from("an Emit is gone"));

@@ -8,7 +8,7 @@ use crate::generate::small::Small;
 use crate::generate::wild::wild;
 use crate::generate::Foretold;
 use crate::library::Library;
-#[cfg(published)]
+#[cfg(files)]
 use crate::made_maps;
 use crate::report::Stats;
 use crate::rng::Rng;
@@ -309,7 +309,7 @@ impl Bench<'_> {
     fn one_map(&mut self) -> Result<(), String> {
         let length = *self.rng.pick(&[0, 1, 2, 3, 5, 8, 40]);
         let used: Vec<bool> = (0..length).map(|_| self.rng.one_in(2)).collect();
-        #[cfg(published)]
+        #[cfg(files)]
         made_maps::against_rust(self.library, &used, &mut self.rng, self.stats)?;
         let map: Vec<u32> = used
             .iter()

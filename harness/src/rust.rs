@@ -4,7 +4,8 @@ use crate::convert;
 use crate::flat::{After, Flat};
 use crate::rng::Rng;
 use crate::roads::{self, Adjusted, Road};
-use published::compact::{compact, KeepUnused};
+use crate::types;
+use naga::compact::{compact, KeepUnused};
 use std::cell::{Cell, RefCell};
 use std::panic::{self, AssertUnwindSafe};
 use std::sync::Once;
@@ -17,6 +18,8 @@ pub enum Outcome {
     Panicked(String),
     /// It got through and left what makes no sense.
     Garbled(String),
+    /// It was not run, since it would not come back.
+    Endless,
 }
 
 thread_local! {
@@ -69,6 +72,9 @@ pub fn caught<T>(work: impl FnOnce() -> T) -> Result<T, String> {
 
 /// Compacts the module with its mentions on the given roads.
 pub fn run(flat: &Flat, keep: bool, roads: &[Road], seed: u64) -> Outcome {
+    if cfg!(feature = "crate") && types::endless(flat) {
+        return Outcome::Endless;
+    }
     let mut built = convert::build(flat, keep, roads, &mut Rng::new(seed));
     let mode = if keep {
         KeepUnused::Yes

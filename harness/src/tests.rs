@@ -415,22 +415,10 @@ fn recorded_answers_are_the_published_ones() {
 /// What `docs/DIFFERENCES.md` says of the Rust and no flat module can ask.
 #[cfg(published)]
 mod beside_flat_modules {
+    use crate::roads::bare_entry;
     use crate::rust::caught;
-    use published::compact::{compact, KeepUnused};
-    use published::{
-        EntryPoint, Expression, Function, Handle, Module, Scalar, ShaderStage, Span, Type,
-        TypeInner,
-    };
-
-    fn entry(stage: ShaderStage, size: Option<Handle<Expression>>) -> EntryPoint {
-        EntryPoint {
-            stage,
-            workgroup_size_overrides: Some([size, None, None]),
-            function: Function::default(),
-            task_payload: None,
-            mesh_info: None,
-        }
-    }
+    use naga::compact::{compact, KeepUnused};
+    use naga::{Expression, Function, Module, Scalar, ShaderStage, Span, Type, TypeInner};
 
     #[test]
     fn a_task_stage_keeps_the_first_u32() {
@@ -447,7 +435,7 @@ mod beside_flat_modules {
                 };
                 module.types.insert(ty, Span::default());
             }
-            module.entry_points.push(entry(stage, None));
+            module.entry_points.push(bare_entry(stage));
             compact(&mut module, KeepUnused::No);
             let names: Vec<_> = module.types.iter().map(|(_, ty)| &ty.name).collect();
             assert_eq!(names.len(), kept);
@@ -464,7 +452,8 @@ mod beside_flat_modules {
                 .append(Function::default(), Span::default());
             let result = Expression::CallResult(function);
             let result = module.global_expressions.append(result, Span::default());
-            let entry = entry(ShaderStage::Compute, Some(result));
+            let mut entry = bare_entry(ShaderStage::Compute);
+            entry.workgroup_size_overrides = Some([Some(result), None, None]);
             module.entry_points.push(entry);
             assert_eq!(caught(|| compact(&mut module, mode)).is_err(), panics);
         }

@@ -5,7 +5,7 @@ use crate::expect::expect_check;
 use crate::flat::{Flat, AREAS, N};
 use crate::rng::Rng;
 use crate::roads;
-use published::compact::{compact, KeepUnused};
+use naga::compact::{compact, KeepUnused};
 use std::hint::black_box;
 use std::time::Instant;
 

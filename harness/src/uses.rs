@@ -2,9 +2,10 @@
 
 use crate::flat::N;
 use crate::rng::Rng;
-use published::{
-    Any, AtomicFunction, Block, CooperativeData, Expression, Function, GatherMode, Handle, Literal,
-    LocalVariable, RayPipelineFunction, RayQueryFunction, Span, Statement, SwitchCase,
+use naga::{
+    AtomicFunction, Block, CollectiveOperation, CooperativeData, Direction, Expression, Function,
+    GatherMode, Handle, Literal, LocalVariable, MathFunction, RayPipelineFunction,
+    RayQueryFunction, Span, Statement, SubgroupOperation, SwitchCase, SwitchValue, UnaryOperator,
 };
 
 type Own = Handle<Expression>;
@@ -54,7 +55,7 @@ fn wrapped(function: &mut Function, own: Own, rng: &mut Rng) -> Own {
     let other = filler(function);
     let expression = match rng.below(4) {
         0 => Expression::Unary {
-            op: Any::One,
+            op: UnaryOperator::Negate,
             expr: own,
         },
         1 => Expression::Load { pointer: own },
@@ -63,7 +64,7 @@ fn wrapped(function: &mut Function, own: Own, rng: &mut Rng) -> Own {
             index: own,
         },
         _ => Expression::Math {
-            fun: Any::One,
+            fun: MathFunction::Fma,
             arg: other,
             arg1: None,
             arg2: None,
@@ -159,8 +160,8 @@ fn statement(form: usize, [p, q, r, s]: [Own; 4]) -> Statement {
             predicate: Some(q),
         },
         16 => Statement::SubgroupCollectiveOperation {
-            op: Any::One,
-            collective_op: Any::One,
+            op: SubgroupOperation::Add,
+            collective_op: CollectiveOperation::Reduce,
             argument: p,
             result: q,
         },
@@ -171,12 +172,13 @@ fn statement(form: usize, [p, q, r, s]: [Own; 4]) -> Statement {
         21 => gather(GatherMode::ShuffleXor(r)),
         22 => gather(GatherMode::QuadBroadcast(r)),
         23 => gather(GatherMode::BroadcastFirst),
-        24 => gather(GatherMode::QuadSwap(Any::One)),
+        24 => gather(GatherMode::QuadSwap(Direction::X)),
         25 => Statement::CooperativeStore {
             target: p,
             data: CooperativeData {
                 pointer: q,
                 stride: r,
+                row_major: true,
             },
         },
         _ => Statement::RayPipelineFunction(RayPipelineFunction::TraceRay {
@@ -206,7 +208,7 @@ fn nested(inner: Statement, other: Own, rng: &mut Rng) -> Statement {
         },
         3 => Statement::Switch {
             selector: other,
-            cases: vec![SwitchCase { body: empty }, SwitchCase { body: block }],
+            cases: vec![case(empty), case(block)],
         },
         4 => Statement::Loop {
             body: block,
@@ -218,5 +220,13 @@ fn nested(inner: Statement, other: Own, rng: &mut Rng) -> Statement {
             continuing: block,
             break_if: None,
         },
+    }
+}
+
+fn case(body: Block) -> SwitchCase {
+    SwitchCase {
+        value: SwitchValue::Default,
+        body,
+        fall_through: false,
     }
 }

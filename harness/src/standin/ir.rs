@@ -1,11 +1,12 @@
-//! The data types that the published compactor walks: only the fields that its text names, and a mark
-//! where an element has to differ from its equals.
+//! The data types that the published compactor walks, in the crate's shape: the fields and variants that
+//! the published text names, and those that a host has to fill in.
 
 use crate::{Arena, FastIndexMap, Handle, NamedExpressions, Range, Span, UniqueArena};
+use std::num::NonZeroU32;
 use std::ops::{Deref, DerefMut};
 
-/// The bit of a type's mark that says that the type is abstract.
-pub const ABSTRACT: u32 = 1 << 31;
+/// The bit of an array's stride and of a struct's span that says that the type is abstract.
+const ABSTRACT: u32 = 1 << 31;
 
 #[derive(Clone, Debug, Default)]
 pub struct Module {
@@ -30,8 +31,13 @@ pub struct SpecialTypes {
     pub predeclared_types: FastIndexMap<PredeclaredType, Handle<Type>>,
 }
 
-#[derive(Clone, Copy, Debug, PartialEq, Eq, Hash)]
-pub struct PredeclaredType(pub u32);
+#[derive(Clone, Debug, PartialEq, Eq, Hash)]
+pub enum PredeclaredType {
+    ModfResult {
+        size: Option<VectorSize>,
+        scalar: Scalar,
+    },
+}
 
 #[derive(Clone, Debug, Default)]
 pub struct DocComments {
@@ -44,19 +50,23 @@ pub struct DocComments {
     pub global_variables: FastIndexMap<Handle<GlobalVariable>, Vec<String>>,
 }
 
+/// A width in bytes.
+pub type Bytes = u8;
+
 #[derive(Clone, Copy, Debug, PartialEq, Eq, Hash)]
 pub enum ScalarKind {
-    Bool,
     Sint,
     Uint,
     Float,
+    Bool,
+    AbstractInt,
+    AbstractFloat,
 }
 
-/// The width carries a mark where a harness made the scalar.
 #[derive(Clone, Copy, Debug, PartialEq, Eq, Hash)]
 pub struct Scalar {
     pub kind: ScalarKind,
-    pub width: u32,
+    pub width: Bytes,
 }
 
 impl Scalar {
@@ -64,7 +74,7 @@ impl Scalar {
     pub const I32: Self = Self::new(ScalarKind::Sint, 4);
     pub const U32: Self = Self::new(ScalarKind::Uint, 4);
 
-    pub const fn new(kind: ScalarKind, width: u32) -> Self {
+    const fn new(kind: ScalarKind, width: Bytes) -> Self {
         Scalar { kind, width }
     }
 }
@@ -76,6 +86,58 @@ pub enum VectorSize {
     Quad,
 }
 
+#[derive(Clone, Copy, Debug, PartialEq, Eq, Hash)]
+pub enum CooperativeSize {
+    Eight,
+    Sixteen,
+}
+
+#[derive(Clone, Copy, Debug, PartialEq, Eq, Hash)]
+pub enum CooperativeRole {
+    A,
+    B,
+    C,
+}
+
+#[derive(Clone, Copy, Debug, PartialEq, Eq, Hash)]
+pub enum AddressSpace {
+    Function,
+    Private,
+    WorkGroup,
+    Uniform,
+    Handle,
+    Immediate,
+    TaskPayload,
+    RayPayload,
+    IncomingRayPayload,
+}
+
+#[derive(Clone, Copy, Debug, PartialEq, Eq, Hash)]
+pub enum ImageDimension {
+    D1,
+    D2,
+    D3,
+    Cube,
+}
+
+#[derive(Clone, Copy, Debug, PartialEq, Eq, Hash)]
+pub enum ImageClass {
+    Sampled { kind: ScalarKind, multi: bool },
+    Depth { multi: bool },
+    External,
+}
+
+/// How a value reaches a stage; here it never does.
+#[derive(Clone, Debug, PartialEq, Eq, Hash)]
+pub enum Binding {}
+
+/// How a host binds a global; here it never does.
+#[derive(Clone, Debug, PartialEq, Eq)]
+pub enum ResourceBinding {}
+
+#[derive(Clone, Copy, Debug, Default, PartialEq, Eq)]
+pub struct MemoryDecorations;
+
 #[derive(Clone, Debug, PartialEq, Eq, Hash)]
 pub struct Type {
     pub name: Option<String>,
@@ -84,14 +146,17 @@ pub struct Type {
 
 #[derive(Clone, Copy, Debug, PartialEq, Eq, Hash)]
 pub enum ArraySize {
-    Constant(u32),
+    Constant(NonZeroU32),
     Pending(Handle<Override>),
     Dynamic,
 }
 
 #[derive(Clone, Debug, PartialEq, Eq, Hash)]
 pub struct StructMember {
+    pub name: Option<String>,
     pub ty: Handle<Type>,
+    pub binding: Option<Binding>,
+    pub offset: u32,
 }
 
 #[derive(Clone, Debug, PartialEq, Eq, Hash)]
@@ -102,18 +167,25 @@ pub enum TypeInner {
         scalar: Scalar,
     },
     Matrix {
+        columns: VectorSize,
+        rows: VectorSize,
         scalar: Scalar,
     },
     CooperativeMatrix {
+        columns: CooperativeSize,
+        rows: CooperativeSize,
         scalar: Scalar,
+        role: CooperativeRole,
     },
     Atomic(Scalar),
     Pointer {
         base: Handle<Type>,
-        space: u32,
+        space: AddressSpace,
     },
     ValuePointer {
-        space: u32,
+        size: Option<VectorSize>,
+        scalar: Scalar,
+        space: AddressSpace,
     },
     Array {
         base: Handle<Type>,
@@ -125,16 +197,18 @@ pub enum TypeInner {
         span: u32,
     },
     Image {
-        class: u32,
+        dim: ImageDimension,
+        arrayed: bool,
+        class: ImageClass,
     },
     Sampler {
-        class: u32,
+        comparison: bool,
     },
     AccelerationStructure {
-        class: u32,
+        vertex_return: bool,
     },
     RayQuery {
-        class: u32,
+        vertex_return: bool,
     },
     BindingArray {
         base: Handle<Type>,
@@ -143,31 +217,20 @@ pub enum TypeInner {
 }
 
 impl TypeInner {
-    /// The word that tells this type from its equals. A binding array has one only in a fixed size.
-    pub fn mark(&self) -> u32 {
+    /// By its scalar, or as an array or a struct says of itself, whatever it holds.
+    pub fn is_abstract(&self, _types: &UniqueArena<Type>) -> bool {
+        use ScalarKind::{AbstractFloat, AbstractInt};
         match *self {
             TypeInner::Scalar(scalar)
             | TypeInner::Atomic(scalar)
             | TypeInner::Vector { scalar, .. }
-            | TypeInner::Matrix { scalar }
-            | TypeInner::CooperativeMatrix { scalar } => scalar.width,
-            TypeInner::Pointer { space, .. } | TypeInner::ValuePointer { space } => space,
-            TypeInner::Array { stride, .. } => stride,
-            TypeInner::Struct { span, .. } => span,
-            TypeInner::Image { class }
-            | TypeInner::Sampler { class }
-            | TypeInner::AccelerationStructure { class }
-            | TypeInner::RayQuery { class } => class,
-            TypeInner::BindingArray { size, .. } => match size {
-                ArraySize::Constant(count) => count,
-                ArraySize::Pending(_) | ArraySize::Dynamic => 0,
-            },
+            | TypeInner::Matrix { scalar, .. } => {
+                matches!(scalar.kind, AbstractInt | AbstractFloat)
+            }
+            TypeInner::Array { stride, .. } => stride & ABSTRACT != 0,
+            TypeInner::Struct { span, .. } => span & ABSTRACT != 0,
+            _ => false,
         }
-    }
-
-    /// Says what the mark says.
-    pub fn is_abstract(&self, _types: &UniqueArena<Type>) -> bool {
-        self.mark() & ABSTRACT != 0
     }
 }
 
@@ -181,7 +244,7 @@ pub struct Constant {
 #[derive(Clone, Debug, PartialEq)]
 pub struct Override {
     pub name: Option<String>,
-    pub id: Option<u32>,
+    pub id: Option<u16>,
     pub ty: Handle<Type>,
     pub init: Option<Handle<Expression>>,
 }
@@ -189,8 +252,11 @@ pub struct Override {
 #[derive(Clone, Debug, PartialEq)]
 pub struct GlobalVariable {
     pub name: Option<String>,
+    pub space: AddressSpace,
+    pub binding: Option<ResourceBinding>,
     pub ty: Handle<Type>,
     pub init: Option<Handle<Expression>>,
+    pub memory_decorations: MemoryDecorations,
 }
 
 #[derive(Clone, Copy, Debug, PartialEq)]
@@ -223,16 +289,41 @@ pub enum BinaryOperator {
     Add,
 }
 
-/// What a `Unary`, `Derivative`, `Relational` or `Math` does, and which part a `Swizzle` takes.
 #[derive(Clone, Copy, Debug, PartialEq)]
-pub enum Any {
-    One,
+pub enum UnaryOperator {
+    Negate,
 }
 
-#[derive(Clone, Debug, PartialEq)]
+#[derive(Clone, Copy, Debug, PartialEq)]
+pub enum DerivativeAxis {
+    X,
+}
+
+#[derive(Clone, Copy, Debug, PartialEq)]
+pub enum DerivativeControl {
+    None,
+}
+
+#[derive(Clone, Copy, Debug, PartialEq)]
+pub enum RelationalFunction {
+    All,
+}
+
+#[derive(Clone, Copy, Debug, PartialEq)]
+pub enum MathFunction {
+    Fma,
+}
+
+#[derive(Clone, Copy, Debug, PartialEq)]
+pub enum SwizzleComponent {
+    X,
+}
+
+#[derive(Clone, Copy, Debug, PartialEq)]
 pub struct CooperativeData {
     pub pointer: Handle<Expression>,
     pub stride: Handle<Expression>,
+    pub row_major: bool,
 }
 
 #[derive(Clone, Debug, PartialEq)]
@@ -264,7 +355,7 @@ pub enum Expression {
     Swizzle {
         size: VectorSize,
         vector: Handle<Expression>,
-        pattern: Any,
+        pattern: [SwizzleComponent; 4],
     },
     GlobalVariable(Handle<GlobalVariable>),
     Load {
@@ -273,7 +364,7 @@ pub enum Expression {
     ImageSample {
         image: Handle<Expression>,
         sampler: Handle<Expression>,
-        gather: Option<Any>,
+        gather: Option<SwizzleComponent>,
         coordinate: Handle<Expression>,
         array_index: Option<Handle<Expression>>,
         offset: Option<Handle<Expression>>,
@@ -297,7 +388,7 @@ pub enum Expression {
         committed: bool,
     },
     Unary {
-        op: Any,
+        op: UnaryOperator,
         expr: Handle<Expression>,
     },
     Binary {
@@ -311,16 +402,16 @@ pub enum Expression {
         reject: Handle<Expression>,
     },
     Derivative {
-        axis: Any,
-        ctrl: Any,
+        axis: DerivativeAxis,
+        ctrl: DerivativeControl,
         expr: Handle<Expression>,
     },
     Relational {
-        fun: Any,
+        fun: RelationalFunction,
         argument: Handle<Expression>,
     },
     Math {
-        fun: Any,
+        fun: MathFunction,
         arg: Handle<Expression>,
         arg1: Option<Handle<Expression>>,
         arg2: Option<Handle<Expression>>,
@@ -329,7 +420,7 @@ pub enum Expression {
     As {
         expr: Handle<Expression>,
         kind: ScalarKind,
-        convert: Option<u32>,
+        convert: Option<Bytes>,
     },
     ArrayLength(Handle<Expression>),
     CallResult(Handle<Function>),
@@ -348,7 +439,9 @@ pub enum Expression {
         committed: bool,
     },
     CooperativeLoad {
-        columns: VectorSize,
+        columns: CooperativeSize,
+        rows: CooperativeSize,
+        role: CooperativeRole,
         data: CooperativeData,
     },
     CooperativeMultiplyAdd {
@@ -360,13 +453,15 @@ pub enum Expression {
 
 #[derive(Clone, Debug, PartialEq)]
 pub struct FunctionArgument {
+    pub name: Option<String>,
     pub ty: Handle<Type>,
+    pub binding: Option<Binding>,
 }
 
 #[derive(Clone, Debug, PartialEq)]
 pub struct FunctionResult {
     pub ty: Handle<Type>,
-    pub binding: Option<u32>,
+    pub binding: Option<Binding>,
 }
 
 #[derive(Clone, Debug, PartialEq)]
@@ -390,28 +485,48 @@ pub struct Function {
 #[derive(Clone, Copy, Debug, PartialEq, Eq)]
 pub enum ShaderStage {
     Vertex,
-    Fragment,
-    Compute,
     Task,
     Mesh,
+    Fragment,
+    Compute,
+    RayGeneration,
+    Miss,
+    AnyHit,
+    ClosestHit,
+}
+
+#[derive(Clone, Copy, Debug, PartialEq, Eq)]
+pub enum MeshOutputTopology {
+    Triangles,
 }
 
 #[derive(Clone, Debug)]
 pub struct MeshStageInfo {
-    pub output_variable: Handle<GlobalVariable>,
+    pub topology: MeshOutputTopology,
+    pub max_vertices: u32,
+    pub max_vertices_override: Option<Handle<Expression>>,
+    pub max_primitives: u32,
+    pub max_primitives_override: Option<Handle<Expression>>,
     pub vertex_output_type: Handle<Type>,
     pub primitive_output_type: Handle<Type>,
-    pub max_vertices_override: Option<Handle<Expression>>,
-    pub max_primitives_override: Option<Handle<Expression>>,
+    pub output_variable: Handle<GlobalVariable>,
 }
+
+/// When a fragment is tested; here nothing asks for it.
+#[derive(Clone, Copy, Debug)]
+pub enum EarlyDepthTest {}
 
 #[derive(Clone, Debug)]
 pub struct EntryPoint {
+    pub name: String,
     pub stage: ShaderStage,
+    pub early_depth_test: Option<EarlyDepthTest>,
+    pub workgroup_size: [u32; 3],
     pub workgroup_size_overrides: Option<[Option<Handle<Expression>>; 3]>,
     pub function: Function,
-    pub task_payload: Option<Handle<GlobalVariable>>,
     pub mesh_info: Option<MeshStageInfo>,
+    pub task_payload: Option<Handle<GlobalVariable>>,
+    pub incoming_ray_payload: Option<Handle<GlobalVariable>>,
 }
 
 /// A list of statements.
@@ -440,9 +555,16 @@ impl DerefMut for Block {
     }
 }
 
+#[derive(Clone, Copy, Debug, PartialEq, Eq)]
+pub enum SwitchValue {
+    Default,
+}
+
 #[derive(Clone, Debug)]
 pub struct SwitchCase {
+    pub value: SwitchValue,
     pub body: Block,
+    pub fall_through: bool,
 }
 
 #[derive(Clone, Copy, Debug)]
@@ -491,8 +613,26 @@ pub enum GatherMode {
     ShuffleUp(Handle<Expression>),
     ShuffleXor(Handle<Expression>),
     QuadBroadcast(Handle<Expression>),
-    QuadSwap(Any),
+    QuadSwap(Direction),
 }
+
+#[derive(Clone, Copy, Debug)]
+pub enum Direction {
+    X,
+}
+
+#[derive(Clone, Copy, Debug)]
+pub enum SubgroupOperation {
+    Add,
+}
+
+#[derive(Clone, Copy, Debug)]
+pub enum CollectiveOperation {
+    Reduce,
+}
+
+#[derive(Clone, Copy, Debug)]
+pub struct Barrier;
 
 #[derive(Clone, Debug)]
 pub enum Statement {
@@ -518,8 +658,8 @@ pub enum Statement {
         value: Option<Handle<Expression>>,
     },
     Kill,
-    ControlBarrier(Any),
-    MemoryBarrier(Any),
+    ControlBarrier(Barrier),
+    MemoryBarrier(Barrier),
     Store {
         pointer: Handle<Expression>,
         value: Handle<Expression>,
@@ -567,8 +707,8 @@ pub enum Statement {
         result: Handle<Expression>,
     },
     SubgroupCollectiveOperation {
-        op: Any,
-        collective_op: Any,
+        op: SubgroupOperation,
+        collective_op: CollectiveOperation,
         argument: Handle<Expression>,
         result: Handle<Expression>,
     },

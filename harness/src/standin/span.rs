@@ -1,13 +1,20 @@
 //! A place in a source text. Here its two words carry an element's marks through a pass.
 
+use std::ops::Range;
+
 #[derive(Clone, Copy, Debug, Default, PartialEq, Eq)]
 pub struct Span {
-    pub start: u32,
-    pub end: u32,
+    start: u32,
+    end: u32,
 }
 
 impl Span {
     pub const fn new(start: u32, end: u32) -> Self {
         Span { start, end }
+    }
+
+    /// The two words, unless both are 0.
+    pub fn to_range(self) -> Option<Range<usize>> {
+        (self != Self::default()).then_some(self.start as usize..self.end as usize)
     }
 }

@@ -69,6 +69,15 @@ impl<T: Eq + Hash> UniqueArena<T> {
         Handle::from_usize(self.table[slot] as usize)
     }
 
+    /// The handle of this value, if it is there.
+    pub fn get(&self, value: &T) -> Option<Handle<T>> {
+        if self.table.is_empty() {
+            return None;
+        }
+        let place = self.table[self.slot(value)];
+        (place != FREE).then(|| Handle::from_usize(place as usize))
+    }
+
     /// Where the value stands in the table, or the free slot where it belongs.
     fn slot(&self, value: &T) -> usize {
         let hasher = BuildHasherDefault::<DefaultHasher>::default();

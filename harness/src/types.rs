@@ -1,0 +1,372 @@
+//! A type record as a type of the Rust.
+//!
+//! No two types of a module are equal, since the Rust's arena would make them one. A type carries its old
+//! number as far as it has room for it. Where the type that was drawn is there already, one of a sort that
+//! carries the whole number takes its place.
+
+use crate::flat::*;
+use crate::handles::{handle, word};
+use crate::rng::Rng;
+use crate::rust::caught;
+use naga::{
+    AddressSpace, ArraySize, CooperativeRole, CooperativeSize, Handle, ImageClass, ImageDimension,
+    Scalar, ScalarKind, Span, StructMember, Type, TypeInner, UniqueArena, VectorSize,
+};
+use std::borrow::Cow;
+use std::num::NonZeroU32;
+
+/// The first mark: below it lie the widths of the scalars that have names.
+const FIRST_MARK: u32 = 16;
+
+/// As many widths carry a number's lowest digit.
+const WIDTHS_OF_SCALARS: u32 = 240;
+
+/// What the mark of an array or a struct has beside the number where the flag says abstract. The stand-in
+/// asks it; the crate asks what an array holds, and a struct is never abstract there.
+const ABSTRACT_MARK: u32 = 1 << 31;
+
+const CONCRETE: [ScalarKind; 4] = [
+    ScalarKind::Bool,
+    ScalarKind::Sint,
+    ScalarKind::Uint,
+    ScalarKind::Float,
+];
+const ABSTRACT_KINDS: [ScalarKind; 2] = [ScalarKind::AbstractInt, ScalarKind::AbstractFloat];
+const SIZES: [VectorSize; 3] = [VectorSize::Bi, VectorSize::Tri, VectorSize::Quad];
+const SPACES: [AddressSpace; 9] = [
+    AddressSpace::Function,
+    AddressSpace::Private,
+    AddressSpace::WorkGroup,
+    AddressSpace::Uniform,
+    AddressSpace::Handle,
+    AddressSpace::Immediate,
+    AddressSpace::TaskPayload,
+    AddressSpace::RayPayload,
+    AddressSpace::IncomingRayPayload,
+];
+
+/// All types of a module. The one at `stage`, if any, is the scalar u32.
+pub fn arena(flat: &Flat, stage: Option<usize>, rng: &mut Rng) -> UniqueArena<Type> {
+    let mut types = UniqueArena::new();
+    for place in 0..flat.records(TYPES) {
+        let maker = Maker::new(flat, place);
+        let mut ty = Type {
+            name: maker.named.then(|| place.to_string()),
+            inner: match stage {
+                Some(at) if at == place => TypeInner::Scalar(Scalar::U32),
+                _ => maker.drawn(rng),
+            },
+        };
+        if types.get(&ty).is_some() {
+            ty.inner = maker.own();
+        }
+        let given = types.insert(ty, Span::new(place as u32, N));
+        assert_eq!(given.index(), place, "each type is its own");
+    }
+    types
+}
+
+/// Takes a number apart, lowest digit first.
+struct Digits(u32);
+
+impl Digits {
+    fn of<T: Copy>(&mut self, list: &[T]) -> T {
+        list[self.below(list.len() as u32) as usize]
+    }
+
+    fn below(&mut self, radix: u32) -> u32 {
+        let digit = self.0 % radix;
+        self.0 /= radix;
+        digit
+    }
+
+    fn bit(&mut self) -> bool {
+        self.below(2) == 1
+    }
+
+    /// A scalar whose width carries the lowest digit.
+    fn scalar(&mut self, kinds: &[ScalarKind]) -> Scalar {
+        let width = width(self.below(WIDTHS_OF_SCALARS));
+        let kind = self.of(kinds);
+        Scalar { kind, width }
+    }
+}
+
+/// The width of the scalars of the type with this number.
+fn width(number: u32) -> u8 {
+    (FIRST_MARK + number % WIDTHS_OF_SCALARS) as u8
+}
+
+/// Makes the type of one record.
+struct Maker<'a> {
+    flat: &'a Flat,
+    record: &'a [u32],
+    place: u32,
+    named: bool,
+    is_abstract: bool,
+}
+
+impl<'a> Maker<'a> {
+    fn new(flat: &'a Flat, place: usize) -> Self {
+        let record = flat.record(TYPES, place);
+        Maker {
+            flat,
+            record,
+            place: place as u32,
+            named: record[1] & NAMED != 0,
+            is_abstract: record[1] & ABSTRACT != 0,
+        }
+    }
+
+    /// The number of an array or a struct.
+    fn mark(&self) -> u32 {
+        let more = if self.is_abstract { ABSTRACT_MARK } else { 0 };
+        FIRST_MARK + self.place + more
+    }
+
+    fn base(&self) -> Handle<Type> {
+        handle(self.record[2])
+    }
+
+    /// Whether an array would be abstract by what it holds, though the flag says that it is not.
+    fn held_abstract(&self) -> bool {
+        let base = self.record[2] as usize;
+        !self.is_abstract
+            && base < self.flat.records(TYPES)
+            && self.flat.record(TYPES, base)[1] & ABSTRACT != 0
+    }
+
+    /// A type of any sort that the record allows.
+    fn drawn(&self, rng: &mut Rng) -> TypeInner {
+        match self.record[0] {
+            0 => self.leaf(rng),
+            1 if self.is_abstract => self.array(rng.one_in(2)),
+            1 => match rng.below(4) {
+                0 => TypeInner::Pointer {
+                    base: self.base(),
+                    space: *rng.pick(&SPACES),
+                },
+                1 if !self.held_abstract() => self.array(true),
+                2 if !self.held_abstract() => self.array(false),
+                _ => self.binding_array(),
+            },
+            2 if self.held_abstract() => self.sized_binding_array(),
+            2 if self.named && !self.is_abstract && rng.one_in(2) => self.sized_binding_array(),
+            _ => self.own(),
+        }
+    }
+
+    /// A type of a sort that carries the whole number.
+    fn own(&self) -> TypeInner {
+        match self.record[0] {
+            0 => self.leaf_of(2),
+            1 if self.held_abstract() => self.binding_array(),
+            1 => self.array(true),
+            2 => TypeInner::Array {
+                base: self.base(),
+                size: ArraySize::Pending(handle(self.record[3])),
+                stride: self.mark(),
+            },
+            _ => self.structure(),
+        }
+    }
+
+    /// An array of fixed or of run-time size.
+    fn array(&self, fixed: bool) -> TypeInner {
+        TypeInner::Array {
+            base: self.base(),
+            size: if fixed {
+                ArraySize::Constant(NonZeroU32::MIN)
+            } else {
+                ArraySize::Dynamic
+            },
+            stride: self.mark(),
+        }
+    }
+
+    fn binding_array(&self) -> TypeInner {
+        TypeInner::BindingArray {
+            base: self.base(),
+            size: ArraySize::Constant(NonZeroU32::MIN.saturating_add(self.place)),
+        }
+    }
+
+    /// Only its name tells such a binding array from its equals.
+    fn sized_binding_array(&self) -> TypeInner {
+        TypeInner::BindingArray {
+            base: self.base(),
+            size: ArraySize::Pending(handle(self.record[3])),
+        }
+    }
+
+    fn structure(&self) -> TypeInner {
+        let (start, count) = (self.record[2] as usize, self.record[3] as usize);
+        let run = &self.flat.areas[MEMBERS][start..start + count];
+        let member = |(number, ty): (usize, &u32)| StructMember {
+            name: None,
+            ty: handle(*ty),
+            binding: None,
+            offset: number as u32,
+        };
+        TypeInner::Struct {
+            members: run.iter().enumerate().map(member).collect(),
+            span: self.mark(),
+        }
+    }
+
+    /// A type without handles.
+    fn leaf(&self, rng: &mut Rng) -> TypeInner {
+        self.leaf_of(rng.below(if self.is_abstract { 4 } else { 10 }))
+    }
+
+    /// A type without handles of this sort: the first four can be abstract, and sort 2 has room for the
+    /// whole number.
+    fn leaf_of(&self, sort: usize) -> TypeInner {
+        let mut digits = Digits(self.place);
+        let kinds: &[ScalarKind] = if self.is_abstract {
+            &ABSTRACT_KINDS
+        } else {
+            &CONCRETE
+        };
+        let scalar = digits.scalar(kinds);
+        match sort {
+            0 => TypeInner::Scalar(scalar),
+            1 => TypeInner::Vector {
+                size: digits.of(&SIZES),
+                scalar,
+            },
+            2 => TypeInner::Matrix {
+                columns: digits.of(&SIZES),
+                rows: digits.of(&SIZES),
+                scalar,
+            },
+            3 => TypeInner::Atomic(scalar),
+            4 => TypeInner::CooperativeMatrix {
+                columns: digits.of(&[CooperativeSize::Eight, CooperativeSize::Sixteen]),
+                rows: digits.of(&[CooperativeSize::Eight, CooperativeSize::Sixteen]),
+                role: digits.of(&[CooperativeRole::A, CooperativeRole::B, CooperativeRole::C]),
+                scalar,
+            },
+            5 => TypeInner::ValuePointer {
+                size: digits.of(&[None, Some(VectorSize::Bi), Some(VectorSize::Quad)]),
+                space: digits.of(&SPACES),
+                scalar,
+            },
+            6 => image(Digits(self.place)),
+            7 => TypeInner::Sampler {
+                comparison: Digits(self.place).bit(),
+            },
+            8 => TypeInner::AccelerationStructure {
+                vertex_return: Digits(self.place).bit(),
+            },
+            _ => TypeInner::RayQuery {
+                vertex_return: Digits(self.place).bit(),
+            },
+        }
+    }
+}
+
+fn image(mut digits: Digits) -> TypeInner {
+    let multi = digits.bit();
+    TypeInner::Image {
+        dim: digits.of(&[
+            ImageDimension::D1,
+            ImageDimension::D2,
+            ImageDimension::D3,
+            ImageDimension::Cube,
+        ]),
+        arrayed: digits.bit(),
+        class: match digits.below(3) {
+            0 => ImageClass::Depth { multi },
+            1 => ImageClass::External,
+            _ => ImageClass::Sampled {
+                kind: digits.of(&CONCRETE),
+                multi,
+            },
+        },
+    }
+}
+
+/// Whether a type carries this old number, as far as it carries one.
+pub fn carries(inner: &TypeInner, old: u32) -> bool {
+    let mark = |word: u32| word & !ABSTRACT_MARK == FIRST_MARK + old;
+    match *inner {
+        TypeInner::Scalar(Scalar::U32) => true,
+        TypeInner::Scalar(scalar)
+        | TypeInner::Atomic(scalar)
+        | TypeInner::Vector { scalar, .. }
+        | TypeInner::Matrix { scalar, .. }
+        | TypeInner::CooperativeMatrix { scalar, .. }
+        | TypeInner::ValuePointer { scalar, .. } => scalar.width == width(old),
+        TypeInner::Array { stride, .. } => mark(stride),
+        TypeInner::Struct { span, .. } => mark(span),
+        TypeInner::BindingArray {
+            size: ArraySize::Constant(count),
+            ..
+        } => count.get() == 1 + old,
+        _ => true,
+    }
+}
+
+/// Kind, a and b; the members go to the pool.
+pub fn words(inner: &TypeInner, members_after: &mut Vec<u32>) -> [u32; 3] {
+    match *inner {
+        TypeInner::Pointer { base, .. } => [1, word(base), N],
+        TypeInner::Array { base, size, .. } | TypeInner::BindingArray { base, size } => {
+            match size {
+                ArraySize::Pending(item) => [2, word(base), word(item)],
+                ArraySize::Constant(_) | ArraySize::Dynamic => [1, word(base), N],
+            }
+        }
+        TypeInner::Struct { ref members, .. } => {
+            let start = members_after.len() as u32;
+            members_after.extend(members.iter().map(|member| word(member.ty)));
+            [3, start, members.len() as u32]
+        }
+        _ => [0, N, N],
+    }
+}
+
+/// Whether bases lead from a type to one that has none, or out of the arena.
+pub fn has_an_end(flat: &Flat, mut ty: usize) -> bool {
+    for _ in 0..=flat.records(TYPES) {
+        if ty >= flat.records(TYPES) {
+            return true;
+        }
+        match flat.record(TYPES, ty) {
+            [1 | 2, _, base, ..] => ty = *base as usize,
+            _ => return true,
+        }
+    }
+    false
+}
+
+/// Whether the Rust would ask `is_abstract` of a type that is an array of itself: the crate's then has no
+/// end.
+pub fn endless(flat: &Flat) -> bool {
+    let mut constants = flat.areas[CONSTANTS].chunks(4);
+    constants.any(|record| record[0] == 1 && !has_an_end(flat, record[1] as usize))
+}
+
+/// The module with the abstract flags that `is_abstract` gives its types. Where none is flagged no type is
+/// made abstract, and there is nothing to find out. The areas must be such that the Rust can hold them.
+pub fn found_flags(flat: &Flat, seed: u64) -> Cow<'_, Flat> {
+    let flagged = |record: &[u32]| record[1] & ABSTRACT != 0;
+    if !flat.areas[TYPES].chunks(5).any(flagged) {
+        return Cow::Borrowed(flat);
+    }
+    let types = arena(flat, None, &mut Rng::new(seed));
+    let mut found = flat.clone();
+    for (at, ty) in types.iter() {
+        let place = at.index();
+        if !has_an_end(flat, place) {
+            continue;
+        }
+        // A base that is not there is a panic; such a module is refused, and its flag has no part in it.
+        if let Ok(is_abstract) = caught(|| ty.inner.is_abstract(&types)) {
+            let flags = &mut found.record_mut(TYPES, place)[1];
+            *flags = *flags & NAMED | if is_abstract { ABSTRACT } else { 0 };
+        }
+    }
+    Cow::Owned(found)
+}
