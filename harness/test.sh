@@ -1,9 +1,26 @@
 #!/usr/bin/env bash
-# The harness's own tests, then a run with a fixed seed against the static library that build.sh made.
+# The harness's own tests, the recorded answers, and two runs with a fixed seed against the static library that build.sh
+# made: over the published files, and over the crate naga itself. Where the files are not here it fails, unless
+# HARNESS_OVER=nothing asks for a run without them. Where the crate can't be had one line says so and the rest goes on;
+# with HARNESS_CRATE=must that is a failure.
 set -euo pipefail
 cd "$(dirname "$0")"
 . ../machine.sh
 cargo test --offline --release --quiet
 cargo build --offline --release --quiet
 $start "$release/harness" replay
-$start "$release/harness" run --seconds "${HARNESS_SECONDS:-60}" --seed 1 --threads 2
+$start "$release/harness" run --over "${HARNESS_OVER:-files}" --seconds "${HARNESS_SECONDS:-60}" --seed 1 --threads 2
+status=0
+said=$(bash naga.sh) || status=$?
+echo "$said"
+case $status in
+0)
+    cargo --config target/naga/cargo.toml build --offline --release --quiet --manifest-path crate/Cargo.toml --target-dir target/crate
+    $start "target/crate/${release#target/}/harness" run --over crate --seconds "${HARNESS_CRATE_SECONDS:-30}" --seed 1 --threads 2
+    ;;
+3)
+    echo 'nothing was held against the crate itself'
+    [ "${HARNESS_CRATE:-}" != must ]
+    ;;
+*) exit "$status" ;;
+esac

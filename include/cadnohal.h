@@ -28,7 +28,9 @@
  * The mentions are what functions, entry points and special types name; each is a root, whatever the flag. The Rust
  * with KeepUnused::No traces only the entry points and the functions that calls reach from them, with Yes every
  * function. A host that wants the same kept gives the mentions of just those: what an unreached function names would
- * stay too if it were mentioned.
+ * stay too if it were mentioned. Two things need a mention though no function names them: the u32 type of a mesh or
+ * task stage, which the Rust keeps of itself, and the global of an entry point's incoming_ray_payload, which the Rust
+ * forgets: it drops that global if nothing else names it, and leaves the old handle in the entry point.
  *
  * The numbers of an answer:
  *

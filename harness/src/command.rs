@@ -6,8 +6,9 @@ use std::path::{Path, PathBuf};
 use std::process::ExitCode;
 
 const USAGE: &str = "\
-harness run [--seconds N | --blocks B] [--seed S] [--threads T] [--library linked|restated]
-    compares until the time is up or the blocks are done; status 1 and harness-failure.txt on a difference
+harness run [--seconds N | --blocks B] [--seed S] [--threads T] [--library linked|restated] [--over files|crate|nothing]
+    compares until the time is up or the blocks are done; status 1 and harness-failure.txt on a difference,
+    status 3 if nothing parted but the published Rust was not there and `--over nothing` did not ask for that
 harness record [--seed S] [--to FOLDER]
     writes answers-1.stdin, answers-1.stdout and so on: what the published Rust answers
 harness time --module FILE --flag yes|no [--turns T]
@@ -17,6 +18,9 @@ harness replay [--library linked|restated] FILE.stdin ...
 
 const NO_SOURCES: &str =
     "the published sources are not here (NAGA_SRC); compared with recorded answers only";
+
+/// The status of a run in which nothing parted though the published Rust had no part in it.
+const WITHOUT_RUST: u8 = 3;
 
 /// The words of the command line after the command.
 struct Arguments {
@@ -68,16 +72,16 @@ pub fn main(mut words: Vec<String>) -> ExitCode {
         words.remove(0)
     };
     let arguments = Arguments { words };
+    let status = |same: bool| u8::from(!same);
     let result = match command.as_str() {
         "run" => run_command(&arguments),
-        "record" => record_command(&arguments),
-        "replay" => replay_command(&arguments),
-        "time" => time_command(&arguments),
+        "record" => record_command(&arguments).map(status),
+        "replay" => replay_command(&arguments).map(status),
+        "time" => time_command(&arguments).map(status),
         _ => Err(String::from(USAGE)),
     };
     match result {
-        Ok(true) => ExitCode::SUCCESS,
-        Ok(false) => ExitCode::from(1),
+        Ok(status) => ExitCode::from(status),
         Err(why) => {
             eprintln!("{why}");
             ExitCode::from(2)
@@ -85,9 +89,66 @@ pub fn main(mut words: Vec<String>) -> ExitCode {
     }
 }
 
-/// What the published text is, if it is here.
-fn published_text() -> Option<&'static str> {
-    option_env!("PUBLISHED_TEXT").filter(|_| cfg!(published))
+/// What the library is held against.
+#[derive(Clone, Copy, Debug, PartialEq, Eq)]
+pub enum Over {
+    Files,
+    Crate,
+    Nothing,
+}
+
+impl Over {
+    /// As this program was built.
+    pub const HERE: Over = if cfg!(files) {
+        Over::Files
+    } else if cfg!(published) {
+        Over::Crate
+    } else {
+        Over::Nothing
+    };
+
+    fn name(self) -> &'static str {
+        match self {
+            Over::Files => "files",
+            Over::Crate => "crate",
+            Over::Nothing => "nothing",
+        }
+    }
+
+    /// The end of a run's last line.
+    pub fn summary(self) -> &'static str {
+        match self {
+            Over::Files => "over the published files of naga 30.0.1",
+            Over::Crate => "over the crate naga 30.0.1",
+            Over::Nothing => "without the published Rust",
+        }
+    }
+
+    /// The status of a run that was asked to be over this, if it was asked.
+    pub fn status(self, same: bool, asked: bool) -> u8 {
+        match self {
+            _ if !same => 1,
+            Over::Nothing if !asked => WITHOUT_RUST,
+            _ => 0,
+        }
+    }
+}
+
+/// Whether the run was asked to be over what this program was built with; any other wish is an error.
+fn asked_over(arguments: &Arguments) -> Result<bool, String> {
+    match arguments.option("--over") {
+        None => Ok(false),
+        Some(name) if name == Over::HERE.name() => Ok(true),
+        Some(name) => Err(format!(
+            "--over {name}: this program was built over {}",
+            Over::HERE.name()
+        )),
+    }
+}
+
+/// What the published text is, where it is known.
+fn published_text() -> &'static str {
+    option_env!("PUBLISHED_TEXT").unwrap_or("its text is not known")
 }
 
 /// The names of the roads, in the order in which they are counted.
@@ -98,9 +159,10 @@ fn road_names() -> Vec<&'static str> {
     Vec::new()
 }
 
-/// True if nothing parted.
-fn run_command(arguments: &Arguments) -> Result<bool, String> {
+/// The status of the run.
+fn run_command(arguments: &Arguments) -> Result<u8, String> {
     let library = arguments.library()?;
+    let (over, asked) = (Over::HERE, asked_over(arguments)?);
     let blocks = arguments.number("--blocks", u64::MAX)?;
     let usual = if blocks == u64::MAX { 60 } else { u64::MAX };
     let plan = run::Plan {
@@ -109,15 +171,14 @@ fn run_command(arguments: &Arguments) -> Result<bool, String> {
         seed: arguments.number("--seed", 1)?,
         threads: arguments.number("--threads", 1)?.max(1) as usize,
     };
-    match published_text() {
-        Some(text) => println!("published text: {text}"),
-        None => {
-            println!("{NO_SOURCES}");
-            if !replay_all(library, &replay::recorded_files())? {
-                return Ok(false);
-            }
-            println!("the generated modules are held against this harness's own restatement");
+    if over == Over::Nothing {
+        println!("{NO_SOURCES}");
+        if !replay_all(library, &replay::recorded_files())? {
+            return Ok(over.status(false, asked));
         }
+        println!("the generated modules are held against this harness's own restatement");
+    } else {
+        println!("{}: {}", over.summary(), published_text());
     }
     let begin = std::time::Instant::now();
     let summary = run::run(library, &plan);
@@ -131,15 +192,15 @@ fn run_command(arguments: &Arguments) -> Result<bool, String> {
         summary.blocks,
         summary.stats.all_modules() as f64 / seconds
     );
-    println!("differences: {}", u64::from(summary.failure.is_some()));
-    let Some(failure) = summary.failure else {
-        return Ok(true);
-    };
-    let text = run::failure_text(library, &failure);
-    let file = Path::new("harness-failure.txt");
-    std::fs::write(file, &text).map_err(|why| format!("{}: {why}", file.display()))?;
-    println!("{}:\n{text}", file.display());
-    Ok(false)
+    let same = summary.failure.is_none();
+    if let Some(failure) = summary.failure {
+        let text = run::failure_text(library, &failure);
+        let file = Path::new("harness-failure.txt");
+        std::fs::write(file, &text).map_err(|why| format!("{}: {why}", file.display()))?;
+        println!("{}:\n{text}", file.display());
+    }
+    println!("differences: {}, {}", u8::from(!same), over.summary());
+    Ok(over.status(same, asked))
 }
 
 #[cfg(published)]
@@ -169,6 +230,9 @@ fn replay_command(arguments: &Arguments) -> Result<bool, String> {
 
 /// True if every file gives what was recorded.
 fn replay_all(library: &dyn Library, files: &[PathBuf]) -> Result<bool, String> {
+    if files.is_empty() {
+        return Err(format!("no recorded answers in {}", replay::RECORDED));
+    }
     let mut all = 0;
     for file in files {
         let (cases, difference) = replay::replay(library, file)?;

@@ -1,17 +1,18 @@
 //! The roads by which a mention reaches the published compactor: special types, fields of entry points,
 //! arguments, results, locals and own expressions of entry points and of the functions they call.
 //!
-//! Beside the mentions lie decoys, which must not matter: own expressions that nothing uses and, under
-//! No, functions that nothing calls.
+//! Beside the mentions lie decoys, which must not matter: own expressions that nothing uses, incoming ray
+//! payloads, which the published compactor neither follows nor rewrites, and, under No, functions that
+//! nothing calls.
 
 use crate::flat::*;
 use crate::handles::{ends, handle, word, Numbered};
 use crate::rng::Rng;
 use crate::uses;
 use naga::{
-    EntryPoint, Expression, Function, FunctionArgument, FunctionResult, Handle, LocalVariable,
-    MeshOutputTopology, MeshStageInfo, Module, PredeclaredType, Range, Scalar, ScalarKind,
-    ShaderStage, Span, SpecialTypes, Statement, Type, VectorSize,
+    EntryPoint, Expression, Function, FunctionArgument, FunctionResult, GlobalVariable, Handle,
+    LocalVariable, MeshOutputTopology, MeshStageInfo, Module, PredeclaredType, Range, Scalar,
+    ScalarKind, ShaderStage, Span, SpecialTypes, Statement, Type, VectorSize,
 };
 
 /// A field or an expression that can name an element.
@@ -202,10 +203,11 @@ pub struct Adjusted {
     pub after: (u32, u32),
 }
 
-/// Where the mentions and the `Emit`s of a module are.
+/// Where the mentions and the `Emit`s of a module are, and each entry point's incoming ray payload.
 pub struct Laid {
     ways: Vec<Way>,
     emits: Vec<Emit>,
+    payloads: Vec<Option<Handle<GlobalVariable>>>,
 }
 
 /// Entry points and called functions while they are made.
@@ -477,12 +479,15 @@ impl Layer<'_> {
             };
             module.functions.append(function, Span::new(mark, N));
         }
-        module.special_types = self.special;
-        module.entry_points = self.entries;
-        Laid {
+        let payloads = self.entries.iter().map(|entry| entry.incoming_ray_payload);
+        let laid = Laid {
             ways: self.ways,
             emits: self.emits,
-        }
+            payloads: payloads.collect(),
+        };
+        module.special_types = self.special;
+        module.entry_points = self.entries;
+        laid
     }
 
     /// The functions in their arena: the called ones in order, decoys (`None`) between them.
@@ -743,6 +748,13 @@ impl<'a> Kept<'a> {
 
 /// The new handle of each mention, read from its road.
 pub fn read(module: &Module, laid: &Laid, new_stage: Option<u32>) -> Result<Vec<u32>, String> {
+    let payloads = module
+        .entry_points
+        .iter()
+        .map(|entry| entry.incoming_ray_payload);
+    if !payloads.eq(laid.payloads.iter().copied()) {
+        return Err(String::from("an incoming ray payload was rewritten"));
+    }
     let kept = Kept::new(module);
     let mut own = vec![N; laid.ways.len()];
     for function in kept.all() {

@@ -1,6 +1,10 @@
 //! A run: blocks of modules from each generator by turns, until the time is up or two part.
 
+#[cfg(published)]
+use crate::compare::as_held;
 use crate::compare::{entries, judge, Difference};
+#[cfg(published)]
+use crate::expect::expect_check;
 use crate::flat::*;
 use crate::generate::damaged::{damage, damage_twice};
 use crate::generate::good::{good, nearly, Size};
@@ -365,6 +369,8 @@ pub fn failure_text(library: &dyn Library, failure: &Failure) -> String {
     };
     let smallest = shrink(&flat, |flat| judged(flat).is_some());
     let difference = judged(&smallest).unwrap_or(failure.difference.clone());
+    #[cfg(published)]
+    let smallest = as_held(&smallest, expect_check(&smallest), seed);
     let flag = match difference.keep {
         Some(true) => "Yes",
         Some(false) => "No",

@@ -1,5 +1,6 @@
 //! The harness tested: it passes what is right, and it catches each sort of wrong answer.
 
+use crate::command::Over;
 use crate::compare::{entries, judge};
 use crate::expect::expect_check;
 use crate::flat::*;
@@ -220,6 +221,20 @@ fn a_run_ends_with_the_smallest_failing_module() {
     assert_eq!(text.matches("\nroom ").count(), 5);
 }
 
+/// Without the published Rust a run ends otherwise than with it, unless that was asked for.
+#[test]
+fn the_status_tells_what_was_compared() {
+    for asked in [false, true] {
+        for over in [Over::Files, Over::Crate, Over::Nothing] {
+            assert_eq!(over.status(false, asked), 1);
+        }
+        assert_eq!(Over::Files.status(true, asked), 0);
+        assert_eq!(Over::Crate.status(true, asked), 0);
+    }
+    assert_eq!(Over::Nothing.status(true, false), 3);
+    assert_eq!(Over::Nothing.status(true, true), 0);
+}
+
 #[test]
 fn a_failing_module_shrinks() {
     let mut rng = Rng::new(3);
@@ -415,6 +430,7 @@ fn recorded_answers_are_the_published_ones() {
 /// What `docs/DIFFERENCES.md` says of the Rust and no flat module can ask.
 #[cfg(published)]
 mod beside_flat_modules {
+    use crate::handles::{global, handle, word};
     use crate::roads::bare_entry;
     use crate::rust::caught;
     use naga::compact::{compact, KeepUnused};
@@ -441,6 +457,33 @@ mod beside_flat_modules {
             assert_eq!(names.len(), kept);
             assert!(names.iter().all(|name| name.as_deref() == Some("a")));
         }
+    }
+
+    /// The entry point's field is neither followed nor rewritten: the host's mention must do both.
+    #[test]
+    fn an_incoming_ray_payload_is_left_alone() {
+        let mut module = Module::default();
+        for name in ["dropped", "payload"] {
+            let ty = Type {
+                name: Some(String::from(name)),
+                inner: TypeInner::Scalar(Scalar::U32),
+            };
+            let ty = word(module.types.insert(ty, Span::default()));
+            let global = global(Some(String::from(name)), ty, None);
+            module.global_variables.append(global, Span::default());
+        }
+        let mut entry = bare_entry(ShaderStage::ClosestHit);
+        entry.incoming_ray_payload = Some(handle(1));
+        module.entry_points.push(entry);
+        let mut used = module.clone();
+        compact(&mut module, KeepUnused::No);
+        assert_eq!((module.types.len(), module.global_variables.len()), (0, 0));
+        assert_eq!(module.entry_points[0].incoming_ray_payload, Some(handle(1)));
+        used.entry_points[0].task_payload = Some(handle(1));
+        compact(&mut used, KeepUnused::No);
+        assert_eq!(used.global_variables.len(), 1);
+        assert_eq!(used.entry_points[0].task_payload, Some(handle(0)));
+        assert_eq!(used.entry_points[0].incoming_ray_payload, Some(handle(1)));
     }
 
     #[test]
