@@ -205,6 +205,10 @@ fn run_command(arguments: &Arguments) -> Result<u8, String> {
 
 #[cfg(published)]
 fn record_command(arguments: &Arguments) -> Result<bool, String> {
+    if !cfg!(files) {
+        let why = "answers are recorded over the published files: some have flags that the crate does not give";
+        return Err(String::from(why));
+    }
     let folder = arguments.option("--to").unwrap_or(replay::RECORDED);
     let seed = arguments.number("--seed", 1)?;
     let (cases, files) = crate::record::record(seed, Path::new(folder))?;

@@ -67,7 +67,7 @@ fn one(number: u32, wanted: &Wanted, rng: &mut Rng) -> Result<(String, String), 
 }
 
 /// What the published Rust answers to an accepted module.
-fn accepted(
+pub fn accepted(
     case: &Case,
     roads: Option<Vec<Road>>,
     rng: &mut Rng,

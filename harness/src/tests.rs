@@ -408,7 +408,7 @@ fn recorded_answers_hold() {
 }
 
 /// The recorded files are what the published Rust answers now.
-#[cfg(published)]
+#[cfg(files)]
 #[test]
 fn recorded_answers_are_the_published_ones() {
     let folder = std::env::temp_dir().join(format!("harness-recorded-{}", std::process::id()));
@@ -427,14 +427,77 @@ fn recorded_answers_are_the_published_ones() {
     std::fs::remove_dir_all(folder).expect("it can be taken away");
 }
 
+/// The recorded answers are the crate's, for accepted modules with the flags that it gives.
+#[cfg(feature = "crate")]
+#[test]
+fn recorded_answers_are_the_crates() {
+    let mut compared = 0;
+    for file in replay::recorded_files() {
+        let text = std::fs::read_to_string(&file).expect("it can be read");
+        for case in parse(&text).expect("they are cases") {
+            let refused = expect_check(&case.flat).is_some();
+            if refused || *crate::types::found_flags(&case.flat, 1) != case.flat {
+                continue;
+            }
+            let by_crate = crate::record::accepted(&case, None, &mut Rng::new(1));
+            assert_eq!(by_crate.map(|pair| pair.1), Ok(replayed(RIGHT, &case)));
+            compared += 1;
+        }
+    }
+    assert!(compared >= 150, "{compared}");
+}
+
+/// Types of each sort over abstract ones are made, and the crate says which of them are abstract.
+#[cfg(feature = "crate")]
+#[test]
+fn the_crate_finds_out_what_is_abstract() {
+    use naga::{Handle, Type, TypeInner};
+    let mut rng = Rng::new(6);
+    let mut seen = std::collections::BTreeSet::new();
+    for _ in 0..400 {
+        let flat = good(&mut rng, Size::Small);
+        let flat = crate::types::found_flags(&flat, rng.next());
+        let types = crate::types::arena(&flat, None, &mut rng);
+        let flagged = |ty: Handle<Type>| flat.record(TYPES, ty.index())[1] & ABSTRACT != 0;
+        for (at, ty) in types.iter() {
+            let (sort, over_abstract) = match &ty.inner {
+                TypeInner::Scalar(scalar) => ("scalar", scalar.is_abstract()),
+                TypeInner::Vector { scalar, .. } => ("vector", scalar.is_abstract()),
+                TypeInner::Matrix { scalar, .. } => ("matrix", scalar.is_abstract()),
+                TypeInner::Atomic(scalar) => ("atomic", scalar.is_abstract()),
+                TypeInner::Array { base, .. } => ("array", flagged(*base)),
+                TypeInner::Pointer { base, .. } => ("pointer", flagged(*base)),
+                TypeInner::BindingArray { base, .. } => ("binding array", flagged(*base)),
+                TypeInner::Struct { members, .. } => {
+                    ("struct", members.iter().any(|member| flagged(member.ty)))
+                }
+                _ => ("other", false),
+            };
+            seen.insert((over_abstract, flagged(at), sort));
+        }
+    }
+    let kept = ["array", "atomic", "matrix", "scalar", "vector"];
+    let lost = ["binding array", "pointer", "struct"];
+    let rows = |is_abstract: bool| {
+        let rows = seen.iter().filter(|row| row.0 && row.1 == is_abstract);
+        rows.map(|row| row.2).collect::<Vec<_>>()
+    };
+    assert_eq!(rows(true), kept);
+    assert_eq!(rows(false), lost);
+    assert!(!seen.iter().any(|row| !row.0 && row.1));
+}
+
 /// What `docs/DIFFERENCES.md` says of the Rust and no flat module can ask.
 #[cfg(published)]
 mod beside_flat_modules {
+    use crate::flat::N;
     use crate::handles::{global, handle, word};
     use crate::roads::bare_entry;
     use crate::rust::caught;
     use naga::compact::{compact, KeepUnused};
-    use naga::{Expression, Function, Module, Scalar, ShaderStage, Span, Type, TypeInner};
+    use naga::{
+        Expression, Function, Module, Range, Scalar, ShaderStage, Span, Statement, Type, TypeInner,
+    };
 
     #[test]
     fn a_task_stage_keeps_the_first_u32() {
@@ -457,6 +520,29 @@ mod beside_flat_modules {
             assert_eq!(names.len(), kept);
             assert!(names.iter().all(|name| name.as_deref() == Some("a")));
         }
+    }
+
+    /// What document 01 calls a reversed range is to the Rust an empty one.
+    #[test]
+    fn a_reversed_range_becomes_empty() {
+        let mut entry = bare_entry(ShaderStage::Compute);
+        for _ in 0..4 {
+            crate::uses::append(&mut entry.function, Expression::SubgroupBallotResult, N);
+        }
+        let value = Some(handle(2));
+        let body = &mut entry.function.body;
+        let range = Range::new_from_bounds(handle(3), handle(1));
+        body.push(Statement::Emit(range), Span::default());
+        body.push(Statement::Return { value }, Span::default());
+        let mut module = Module::default();
+        module.entry_points.push(entry);
+        compact(&mut module, KeepUnused::No);
+        let function = &module.entry_points[0].function;
+        assert_eq!(function.expressions.len(), 1);
+        let Some(Statement::Emit(range)) = function.body.first() else {
+            panic!("the Emit is gone");
+        };
+        assert_eq!(range.index_range(), 0..0);
     }
 
     /// The entry point's field is neither followed nor rewritten: the host's mention must do both.

@@ -19,6 +19,11 @@ impl<T> Range<T> {
         }
     }
 
+    /// The run from a first handle to a last one, whichever comes first.
+    pub fn new_from_bounds(first: Handle<T>, last: Handle<T>) -> Self {
+        Self::from_ends(first.index() as u32..last.index() as u32 + 1)
+    }
+
     /// The run with these two ends, which must lie in the arena.
     pub fn from_index_range(inner: ops::Range<u32>, arena: &Arena<T>) -> Self {
         let range = Self::from_ends(inner);
