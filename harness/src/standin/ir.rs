@@ -136,7 +136,7 @@ pub enum Binding {}
 pub enum ResourceBinding {}
 
 #[derive(Clone, Copy, Debug, Default, PartialEq, Eq)]
-pub struct MemoryDecorations;
+pub struct MemoryDecorations(pub u8);
 
 #[derive(Clone, Debug, PartialEq, Eq, Hash)]
 pub struct Type {
