@@ -75,24 +75,24 @@ from_packages() {
     local archive found names package
     command -v apt-get >/dev/null && command -v dpkg-deb >/dev/null || missing 'this machine has no package client of Debian'
     archive=$(apt-get indextargets --format '$(REPO_URI) $(COMPONENT)' 'Created-By: Packages' 2>/dev/null |
-        sed -n '/security/d;s/ main$//p' | head -n 1)
+        awk '$2 == "main" && !/security/ && !found++ { print $1 }') || missing 'the package client does not name its archives'
     [ -n "$archive" ] || missing 'no package archive is set up'
     work=$(mktemp -d "$place/packages.XXXXXX")
     trap 'rm -rf "$work"' EXIT
     mkdir -p "$work"/{state/lists/partial,cache/archives/partial,fetched}
     : >"$work/status"
     echo "deb [signed-by=/usr/share/keyrings/debian-archive-keyring.gpg] $archive unstable main" >"$work/unstable.list"
-    client apt-get -qq update >>"$work/log" || missing 'the unstable suite cannot be read'
-    found=$(client apt-cache policy librust-naga-dev | sed -n 's/^ *Candidate: //p')
+    client apt-get -qq update -o APT::Update::Error-Mode=any >>"$work/log" || missing 'the unstable suite cannot be read'
+    found=$(client apt-cache policy librust-naga-dev | sed -n 's/^ *Candidate: //p') || missing 'the unstable suite cannot be asked'
     case $found in
     "$version"-*) ;;
     *) missing "the unstable suite has ${found:-none}" ;;
     esac
     names=$(client apt-get -s --no-install-recommends install librust-naga-dev |
-        sed -n 's/^Inst \(librust-[^ ]*\) .*/\1/p')
+        sed -n 's/^Inst \(librust-[^ ]*\) .*/\1/p') || missing 'the unstable suite lacks something that it needs'
     (cd "$work/fetched" && client apt-get -qq download $names) >>"$work/log" || missing 'its packages cannot be fetched'
     for package in "$work"/fetched/*.deb; do
-        dpkg-deb -x "$package" "$work/unpacked"
+        dpkg-deb -x "$package" "$work/unpacked" || missing 'its packages cannot be unpacked'
     done
     rm -rf "$place/registry"
     mv "$work/unpacked/usr/share/cargo/registry" "$place/registry"
