@@ -234,9 +234,6 @@ fn replay_command(arguments: &Arguments) -> Result<bool, String> {
 
 /// True if every file gives what was recorded.
 fn replay_all(library: &dyn Library, files: &[PathBuf]) -> Result<bool, String> {
-    if files.is_empty() {
-        return Err(format!("no recorded answers in {}", replay::RECORDED));
-    }
     let mut all = 0;
     for file in files {
         let (cases, difference) = replay::replay(library, file)?;
