@@ -173,7 +173,7 @@ fn run_command(arguments: &Arguments) -> Result<u8, String> {
     };
     if over == Over::Nothing {
         println!("{NO_SOURCES}");
-        if !replay_all(library, &replay::recorded_files())? {
+        if !replay_all(library, &replay::recorded_files()?)? {
             return Ok(over.status(false, asked));
         }
         println!("the generated modules are held against this harness's own restatement");
@@ -227,7 +227,7 @@ fn replay_command(arguments: &Arguments) -> Result<bool, String> {
     let library = arguments.library()?;
     let mut files = arguments.files();
     if files.is_empty() {
-        files = replay::recorded_files();
+        files = replay::recorded_files()?;
     }
     replay_all(library, &files)
 }

@@ -4,7 +4,7 @@ use crate::library::Library;
 use crate::text::{parse, replayed};
 use std::path::{Path, PathBuf};
 
-/// Replays one file. Gives how many cases it has, and the first line that differs.
+/// Replays one file, which has a case at least. Gives how many it has, and the first line that differs.
 pub fn replay(library: &dyn Library, file: &Path) -> Result<(usize, Option<String>), String> {
     let read = |path: &Path| {
         std::fs::read_to_string(path).map_err(|why| format!("{}: {why}", path.display()))
@@ -12,6 +12,9 @@ pub fn replay(library: &dyn Library, file: &Path) -> Result<(usize, Option<Strin
     let input = read(file)?;
     let wanted = read(&file.with_extension("stdout"))?;
     let cases = parse(&input).map_err(|why| format!("{}: {why}", file.display()))?;
+    if cases.is_empty() {
+        return Err(format!("{}: no cases", file.display()));
+    }
     let mut got = String::new();
     for case in &cases {
         got.push_str(&replayed(library, case));
@@ -46,12 +49,33 @@ fn first_difference(got: &str, wanted: &str) -> Option<String> {
 pub const RECORDED: &str = concat!(env!("HARNESS"), "/../crates/cases/answers");
 
 /// The recorded files.
-pub fn recorded_files() -> Vec<PathBuf> {
-    let entries = std::fs::read_dir(RECORDED).into_iter().flatten().flatten();
-    let mut files: Vec<PathBuf> = entries
-        .map(|entry| entry.path())
-        .filter(|path| path.extension().is_some_and(|end| end == "stdin"))
-        .collect();
-    files.sort();
-    files
+pub fn recorded_files() -> Result<Vec<PathBuf>, String> {
+    files_in(Path::new(RECORDED))
+}
+
+/// The cases in a folder that holds some, and what each file of them must give.
+pub fn files_in(folder: &Path) -> Result<Vec<PathBuf>, String> {
+    let wrong = |why: &str| format!("{}: {why}", folder.display());
+    let entries = std::fs::read_dir(folder).map_err(|why| wrong(&why.to_string()))?;
+    let paths: Vec<PathBuf> = entries.flatten().map(|entry| entry.path()).collect();
+    let ending = |end: &str| {
+        let with = |path: &&PathBuf| path.extension().is_some_and(|given| given == end);
+        let mut files: Vec<PathBuf> = paths.iter().filter(with).cloned().collect();
+        files.sort();
+        files
+    };
+    let (files, answers) = (ending("stdin"), ending("stdout"));
+    if files.is_empty() {
+        return Err(wrong("no recorded answers"));
+    }
+    if files
+        .iter()
+        .map(|file| file.with_extension("stdout"))
+        .ne(answers)
+    {
+        return Err(wrong(
+            "a .stdin without its .stdout, or the other way round",
+        ));
+    }
+    Ok(files)
 }

@@ -393,18 +393,32 @@ fn fits(case: &Case) -> bool {
 
 #[test]
 fn recorded_answers_hold() {
-    let files = replay::recorded_files();
-    assert!(!files.is_empty());
-    for file in files {
+    for file in replay::recorded_files().expect("they are here") {
         let text = std::fs::read_to_string(&file).expect("it can be read");
         assert!(text.len() < 8192);
         assert!(parse(&text).expect("they are cases").iter().all(fits));
         for library in [RIGHT, &Restated] {
-            let (cases, difference) = replay::replay(library, &file).expect("it can be read");
-            assert!(cases > 0);
+            let (_, difference) = replay::replay(library, &file).expect("it can be read");
             assert_eq!(difference, None, "{}", file.display());
         }
     }
+}
+
+#[test]
+fn no_recorded_answers_are_an_error() {
+    let folder = std::env::temp_dir().join(format!("harness-empty-{}", std::process::id()));
+    assert!(replay::files_in(&folder).is_err());
+    std::fs::create_dir(&folder).expect("it can be made");
+    assert!(replay::files_in(&folder).is_err());
+    let file = folder.join("answers-1.stdin");
+    for end in ["stdin", "stdout"] {
+        std::fs::write(file.with_extension(end), "# nothing\n").expect("it can be written");
+    }
+    assert!(replay::files_in(&folder).is_ok());
+    assert!(replay::replay(RIGHT, &file).is_err());
+    std::fs::remove_file(&file).expect("it can be taken away");
+    assert!(replay::files_in(&folder).is_err());
+    std::fs::remove_dir_all(folder).expect("it can be taken away");
 }
 
 /// The recorded files are what the published Rust answers now.
@@ -414,7 +428,7 @@ fn recorded_answers_are_the_published_ones() {
     let folder = std::env::temp_dir().join(format!("harness-recorded-{}", std::process::id()));
     let (cases, files) = crate::record::record(1, &folder).expect("they can be written");
     assert!(cases >= 300);
-    let recorded = replay::recorded_files();
+    let recorded = replay::recorded_files().expect("they are here");
     assert_eq!(recorded.len(), files);
     for file in recorded {
         let name = file.file_name().expect("it has a name");
@@ -432,7 +446,7 @@ fn recorded_answers_are_the_published_ones() {
 #[test]
 fn recorded_answers_are_the_crates() {
     let mut compared = 0;
-    for file in replay::recorded_files() {
+    for file in replay::recorded_files().expect("they are there") {
         let text = std::fs::read_to_string(&file).expect("it can be read");
         for case in parse(&text).expect("they are cases") {
             let refused = expect_check(&case.flat).is_some();
