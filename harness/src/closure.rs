@@ -122,7 +122,7 @@ pub fn after(flat: &Flat, marks: &Marks) -> After {
 }
 
 /// New numbers in the old order.
-fn number(marks: &[bool]) -> Vec<u32> {
+pub fn number(marks: &[bool]) -> Vec<u32> {
     let mut next = 0;
     let mut give = |kept: &bool| {
         next += u32::from(*kept);

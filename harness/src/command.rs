@@ -13,6 +13,8 @@ harness record [--seed S] [--to FOLDER]
     writes answers-1.stdin, answers-1.stdout and so on: what the published Rust answers
 harness time --module FILE --flag yes|no [--turns T]
     times the published Rust on one module of lines `raw AREA words`: median, lower and upper quartile in ns
+harness shaders [--library linked|restated] [FOLDER ...]
+    over the crate naga only: shaders compacted by naga and by the library; without folders, those in harness/shaders
 harness replay [--library linked|restated] FILE.stdin ...
     holds the library to recorded answers; without files, to those in crates/cases/answers";
 
@@ -77,6 +79,7 @@ pub fn main(mut words: Vec<String>) -> ExitCode {
         "run" => run_command(&arguments),
         "record" => record_command(&arguments).map(status),
         "replay" => replay_command(&arguments).map(status),
+        "shaders" => shaders_command(&arguments).map(status),
         "time" => time_command(&arguments).map(status),
         _ => Err(String::from(USAGE)),
     };
@@ -245,6 +248,19 @@ fn replay_all(library: &dyn Library, files: &[PathBuf]) -> Result<bool, String> 
     }
     println!("{all} recorded cases in {} files: as recorded", files.len());
     Ok(true)
+}
+
+/// True if naga and the library leave the same of each shader.
+#[cfg(feature = "crate")]
+fn shaders_command(arguments: &Arguments) -> Result<bool, String> {
+    crate::shaders::shaders(arguments.library()?, &arguments.files())
+}
+
+#[cfg(not(feature = "crate"))]
+fn shaders_command(_arguments: &Arguments) -> Result<bool, String> {
+    Err(String::from(
+        "shaders are read by the crate naga itself, and this was built without it",
+    ))
 }
 
 /// Prints how long the published Rust takes for one module.

@@ -184,21 +184,22 @@ fn accepted(
 ) -> Verdict {
     let mut lent = lend(flat, seed);
     let answer = library.compact(&mut lent, keep);
-    guarded("compact", &lent)?;
     let marks = closure::closure(flat, keep);
     let by_closure = closure::after(flat, &marks);
     #[cfg(published)]
     {
         let by_rust = by_rust(library, flat, keep, seed, stats)?;
         let who = "the library against the published Rust";
-        same_after(who, answer, &lent, &by_rust.counts, &by_rust.areas)?;
-        same_maps(who, &lent, &by_rust.maps)?;
+        same_pass(who, answer, &lent, &by_rust)?;
         same_sides(&by_rust, &by_closure)?;
         stats.count(Counted::AgainstRust, 1);
     }
-    let who = "the library against the closure";
-    same_after(who, answer, &lent, &by_closure.counts, &by_closure.areas)?;
-    same_maps(who, &lent, &by_closure.maps)?;
+    same_pass(
+        "the library against the closure",
+        answer,
+        &lent,
+        &by_closure,
+    )?;
     stats.count(Counted::AgainstClosure, 1);
     let records = std::array::from_fn(|area| flat.records(area));
     map_tails("compact", records, &lent, seed)?;
@@ -211,6 +212,13 @@ fn accepted(
         entries(library, map, &mut rng, stats)?;
     }
     Ok(())
+}
+
+/// What a pass of the library answered and left is what another left.
+pub fn same_pass(who: &str, answer: Answer, lent: &Lent, other: &After) -> Verdict {
+    guarded(who, lent)?;
+    same_after(who, answer, lent, &other.counts, &other.areas)?;
+    same_maps(who, lent, &other.maps)
 }
 
 /// The answer and every word of every area after a pass.

@@ -4,7 +4,8 @@
 //! literal where it has one. So the maps can be read off the module after the pass.
 
 use crate::flat::*;
-use crate::handles::{ends, global, handle, option, option_word, word, HIGHEST};
+use crate::handles::{ends, global, handle, option, word, HIGHEST};
+use crate::places::{constant_words, expression_words, global_words, override_words, type_words};
 use crate::rng::Rng;
 use crate::roads::{self, Laid, Road};
 use crate::types;
@@ -362,9 +363,9 @@ fn read_types(flat: &Flat, built: &Built, after: &mut After) -> Result<(), Strin
         } else {
             flat.record(TYPES, old as usize)[1] & ABSTRACT != 0
         };
-        let flags = u32::from(ty.name.is_some()) + if is_abstract { ABSTRACT } else { 0 };
-        let [kind, a, b] = types::words(&ty.inner, &mut after.areas[MEMBERS]);
-        after.areas[TYPES].extend([kind, flags, a, b, tag]);
+        let words = type_words(ty, is_abstract, &mut after.areas[MEMBERS]);
+        after.areas[TYPES].extend(words);
+        after.areas[TYPES].push(tag);
     }
     Ok(())
 }
@@ -374,8 +375,8 @@ fn read_constants(flat: &Flat, module: &Module, after: &mut After) -> Result<(),
         let span = module.constants.get_span(at);
         let tag = place(flat, after, CONSTANTS, span, at.index())?[3];
         same(CONSTANTS, ends(span).0, named_mark(&item.name))?;
-        let named = u32::from(item.name.is_some());
-        after.areas[CONSTANTS].extend([named, word(item.ty), word(item.init), tag]);
+        after.areas[CONSTANTS].extend(constant_words(item));
+        after.areas[CONSTANTS].push(tag);
     }
     Ok(())
 }
@@ -386,8 +387,8 @@ fn read_overrides(flat: &Flat, module: &Module, after: &mut After) -> Result<(),
         let tag = place(flat, after, OVERRIDES, span, at.index())?[3];
         same(OVERRIDES, ends(span).0, named_mark(&item.name))?;
         same(OVERRIDES, ends(span).0, item.id.map(u32::from))?;
-        let named = u32::from(item.name.is_some());
-        after.areas[OVERRIDES].extend([named, word(item.ty), option_word(item.init), tag]);
+        after.areas[OVERRIDES].extend(override_words(item));
+        after.areas[OVERRIDES].push(tag);
     }
     Ok(())
 }
@@ -397,7 +398,8 @@ fn read_globals(flat: &Flat, module: &Module, after: &mut After) -> Result<(), S
         let span = module.global_variables.get_span(at);
         let tag = place(flat, after, GLOBALS, span, at.index())?[2];
         same(GLOBALS, ends(span).0, named_mark(&item.name))?;
-        after.areas[GLOBALS].extend([word(item.ty), option_word(item.init), tag]);
+        after.areas[GLOBALS].extend(global_words(item));
+        after.areas[GLOBALS].push(tag);
     }
     Ok(())
 }
@@ -408,10 +410,9 @@ fn read_expressions(flat: &Flat, module: &Module, after: &mut After) -> Result<(
         let span = arena.get_span(at);
         let tag = place(flat, after, EXPRESSIONS, span, at.index())?[10];
         same(EXPRESSIONS, ends(span).0, expression_mark(expression))?;
-        let mut record = [N; 11];
-        record[10] = tag;
-        expression_words(expression, &mut record, &mut after.areas[COMPONENTS]);
-        after.areas[EXPRESSIONS].extend(record);
+        let words = expression_words(expression, &mut after.areas[COMPONENTS]);
+        after.areas[EXPRESSIONS].extend(words);
+        after.areas[EXPRESSIONS].push(tag);
     }
     Ok(())
 }
@@ -423,136 +424,5 @@ fn expression_mark(expression: &Expression) -> Option<u32> {
         Expression::LocalVariable(handle) => Some(word(handle)),
         Expression::AccessIndex { index, .. } => Some(index),
         _ => None,
-    }
-}
-
-/// Writes kind and slots; the components go to the pool.
-fn expression_words(
-    expression: &Expression,
-    record: &mut [u32; 11],
-    components_after: &mut Vec<u32>,
-) {
-    use Expression as Ex;
-    let mut put = |kind: u32, slots: &[u32]| {
-        record[0] = kind;
-        record[1..=slots.len()].copy_from_slice(slots);
-    };
-    match *expression {
-        Ex::Literal(_) => put(0, &[]),
-        Ex::FunctionArgument(_) => put(1, &[]),
-        Ex::LocalVariable(_) => put(2, &[]),
-        Ex::SubgroupBallotResult => put(3, &[]),
-        Ex::RayQueryProceedResult => put(4, &[]),
-        Ex::Constant(handle) => put(5, &[word(handle)]),
-        Ex::Override(handle) => put(6, &[word(handle)]),
-        Ex::ZeroValue(ty) => put(7, &[word(ty)]),
-        Ex::Compose { ty, ref components } => {
-            let start = components_after.len() as u32;
-            components_after.extend(components.iter().map(|item| word(*item)));
-            put(8, &[word(ty), start, components.len() as u32]);
-        }
-        Ex::Access { base, index } => put(9, &[word(base), word(index)]),
-        Ex::AccessIndex { base, .. } => put(10, &[word(base)]),
-        Ex::Splat { value, .. } => put(11, &[word(value)]),
-        Ex::Swizzle { vector, .. } => put(12, &[word(vector)]),
-        Ex::GlobalVariable(handle) => put(13, &[word(handle)]),
-        Ex::Load { pointer } => put(14, &[word(pointer)]),
-        Ex::ImageSample {
-            image,
-            sampler,
-            coordinate,
-            array_index,
-            offset,
-            level,
-            depth_ref,
-            ..
-        } => {
-            let [form, x, y] = level_words(level);
-            let (image, sampler, coordinate) = (word(image), word(sampler), word(coordinate));
-            let (array_index, offset) = (option_word(array_index), option_word(offset));
-            let depth_ref = option_word(depth_ref);
-            put(
-                15,
-                &[
-                    image,
-                    sampler,
-                    coordinate,
-                    array_index,
-                    offset,
-                    form,
-                    x,
-                    y,
-                    depth_ref,
-                ],
-            );
-        }
-        Ex::ImageLoad {
-            image,
-            coordinate,
-            array_index,
-            sample,
-            level,
-        } => {
-            let (array_index, sample) = (option_word(array_index), option_word(sample));
-            let level = option_word(level);
-            put(
-                16,
-                &[word(image), word(coordinate), array_index, sample, level],
-            );
-        }
-        Ex::ImageQuery { image, query } => {
-            let (form, level) = match query {
-                ImageQuery::Size { level } => (0, option_word(level)),
-                ImageQuery::NumLevels => (1, N),
-                ImageQuery::NumLayers => (2, N),
-                ImageQuery::NumSamples => (3, N),
-            };
-            put(17, &[word(image), form, level]);
-        }
-        Ex::RayQueryVertexPositions { query, .. } => put(18, &[word(query)]),
-        Ex::Unary { expr, .. } => put(19, &[word(expr)]),
-        Ex::Binary { left, right, .. } => put(20, &[word(left), word(right)]),
-        Ex::Select {
-            condition,
-            accept,
-            reject,
-        } => put(21, &[word(condition), word(accept), word(reject)]),
-        Ex::Derivative { expr, .. } => put(22, &[word(expr)]),
-        Ex::Relational { argument, .. } => put(23, &[word(argument)]),
-        Ex::Math {
-            arg,
-            arg1,
-            arg2,
-            arg3,
-            ..
-        } => put(
-            24,
-            &[
-                word(arg),
-                option_word(arg1),
-                option_word(arg2),
-                option_word(arg3),
-            ],
-        ),
-        Ex::As { expr, .. } => put(25, &[word(expr)]),
-        Ex::ArrayLength(expr) => put(26, &[word(expr)]),
-        Ex::CallResult(function) => put(27, &[word(function)]),
-        Ex::AtomicResult { ty, .. } => put(28, &[word(ty)]),
-        Ex::WorkGroupUniformLoadResult { ty } => put(29, &[word(ty)]),
-        Ex::SubgroupOperationResult { ty } => put(30, &[word(ty)]),
-        Ex::RayQueryGetIntersection { query, .. } => put(31, &[word(query)]),
-        Ex::CooperativeLoad { ref data, .. } => put(32, &[word(data.pointer), word(data.stride)]),
-        Ex::CooperativeMultiplyAdd { a, b, c } => put(33, &[word(a), word(b), word(c)]),
-    }
-}
-
-/// Form, x and y.
-fn level_words(level: SampleLevel) -> [u32; 3] {
-    match level {
-        SampleLevel::Auto => [0, N, N],
-        SampleLevel::Zero => [1, N, N],
-        SampleLevel::Exact(x) => [2, word(x), N],
-        SampleLevel::Bias(x) => [3, word(x), N],
-        SampleLevel::Gradient { x, y } => [4, word(x), word(y)],
     }
 }

@@ -14,10 +14,14 @@ mod flat;
 mod generate;
 #[cfg(published)]
 mod handles;
+#[cfg(feature = "crate")]
+mod host;
 mod library;
 #[cfg(files)]
 mod made_maps;
 mod maps;
+#[cfg(published)]
+mod places;
 #[cfg(published)]
 mod record;
 mod replay;
@@ -28,6 +32,8 @@ mod roads;
 mod run;
 #[cfg(published)]
 mod rust;
+#[cfg(feature = "crate")]
+mod shaders;
 mod shrink;
 #[cfg(test)]
 mod tests;

@@ -626,7 +626,7 @@ pub fn bare_entry(stage: ShaderStage) -> EntryPoint {
     }
 }
 
-fn argument(ty: Handle<Type>) -> FunctionArgument {
+pub fn argument(ty: Handle<Type>) -> FunctionArgument {
     FunctionArgument {
         name: None,
         ty,

@@ -602,3 +602,33 @@ mod beside_flat_modules {
         }
     }
 }
+
+/// The comparison on shaders passes the right library and catches wrong answers.
+#[cfg(feature = "crate")]
+mod over_shaders {
+    use super::{Faulty, Wrong, RIGHT};
+    use crate::shaders::shaders;
+    use std::path::PathBuf;
+
+    #[test]
+    fn the_right_library_passes() {
+        assert_eq!(shaders(RIGHT, &[]), Ok(true));
+    }
+
+    #[test]
+    fn wrong_answers_are_caught() {
+        let areas = (0..8).map(Wrong::AreaWord);
+        let counts = (0..7).map(Wrong::Count);
+        let maps = (0..5).map(Wrong::MapWord);
+        let others = [Wrong::Guard, Wrong::RefusesGood, Wrong::Adjust];
+        for wrong in areas.chain(counts).chain(maps).chain(others) {
+            assert_eq!(shaders(&Faulty(wrong), &[]), Ok(false), "{wrong:?}");
+        }
+    }
+
+    #[test]
+    fn a_folder_without_shaders_is_no_success() {
+        let sources = PathBuf::from(concat!(env!("HARNESS"), "/src"));
+        assert_eq!(shaders(RIGHT, &[sources]), Ok(false));
+    }
+}

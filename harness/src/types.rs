@@ -5,7 +5,7 @@
 //! carries the whole number takes its place.
 
 use crate::flat::*;
-use crate::handles::{handle, word};
+use crate::handles::handle;
 use crate::rng::Rng;
 use crate::rust::caught;
 use naga::{
@@ -305,25 +305,6 @@ pub fn carries(inner: &TypeInner, old: u32) -> bool {
             ..
         } => count.get() == 1 + old,
         _ => true,
-    }
-}
-
-/// Kind, a and b; the members go to the pool.
-pub fn words(inner: &TypeInner, members_after: &mut Vec<u32>) -> [u32; 3] {
-    match *inner {
-        TypeInner::Pointer { base, .. } => [1, word(base), N],
-        TypeInner::Array { base, size, .. } | TypeInner::BindingArray { base, size } => {
-            match size {
-                ArraySize::Pending(item) => [2, word(base), word(item)],
-                ArraySize::Constant(_) | ArraySize::Dynamic => [1, word(base), N],
-            }
-        }
-        TypeInner::Struct { ref members, .. } => {
-            let start = members_after.len() as u32;
-            members_after.extend(members.iter().map(|member| word(member.ty)));
-            [3, start, members.len() as u32]
-        }
-        _ => [0, N, N],
     }
 }
 
