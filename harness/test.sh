@@ -1,8 +1,8 @@
 #!/usr/bin/env bash
 # The harness's own tests, the recorded answers, and two runs with a fixed seed against the static library that build.sh
-# made: over the published files, and over the crate naga itself. Where the files are not here it fails, unless
-# HARNESS_OVER=nothing asks for a run without them. Where the crate can't be had one line says so and the rest goes on;
-# with HARNESS_CRATE=must that is a failure.
+# made: over the published files, and over the crate naga itself; over the crate the shaders too. Where the files are not
+# here it fails, unless HARNESS_OVER=nothing asks for a run without them. Where the crate can't be had one line says so and
+# the rest goes on; with HARNESS_CRATE=must that is a failure.
 set -euo pipefail
 cd "$(dirname "$0")"
 . ../machine.sh
@@ -17,6 +17,8 @@ case $status in
 0)
     cargo --config target/naga/cargo.toml build --offline --release --quiet --manifest-path crate/Cargo.toml --target-dir target/crate
     $start "target/crate/${release#target/}/harness" run --over crate --seconds "${HARNESS_CRATE_SECONDS:-30}" --seed 1 --threads 2
+    cargo --config target/naga/cargo.toml test --offline --release --quiet --manifest-path crate/Cargo.toml --target-dir target/crate over_shaders
+    $start "target/crate/${release#target/}/harness" shaders
     ;;
 3)
     echo 'nothing was held against the crate itself'

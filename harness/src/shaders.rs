@@ -209,8 +209,8 @@ fn same_module(left: &Module, rebuilt: &Module) -> Verdict {
 struct Totals {
     read: usize,
     unread: usize,
-    /// Not valid before a pass.
-    invalid: usize,
+    /// Shaders that are not valid before a pass, and passes that leave such ones.
+    invalid: [usize; 2],
     passes: usize,
     /// Passes over shaders that are larger than a limit.
     large: usize,
@@ -238,7 +238,7 @@ impl Totals {
         self.read += 1;
         let before = valid(&module);
         if let Err(why) = &before {
-            self.invalid += 1;
+            self.invalid[0] += 1;
             self.remark(name, &format!("not valid: {why}"));
         }
         let mut shader = match Shader::new(module) {
@@ -277,6 +277,7 @@ impl Totals {
             said(&pass.valid[1]),
         );
         self.stale += pass.stale;
+        self.invalid[1] += usize::from(pass.valid.iter().any(Result::is_err));
         self.parted += usize::from(pass.same.is_err() || pass.valid[0] != pass.valid[1]);
         if let Err(why) = &pass.same {
             self.remark(name, &format!("{flag}: {why}"));
@@ -293,11 +294,15 @@ impl Totals {
         }
         println!(
             "{} shaders read, {} of them not valid before a pass; {} not read by naga's front ends",
-            self.read, self.invalid, self.unread
+            self.read, self.invalid[0], self.unread
         );
         println!(
-            "{} passes, {} of them over shaders past a limit; payloads that naga left under their old numbers: {}",
-            self.passes, self.large, self.stale
+            "{} passes, {} of them over shaders past a limit; {} leave what is not valid",
+            self.passes, self.large, self.invalid[1]
+        );
+        println!(
+            "payloads that naga left under their old numbers: {}",
+            self.stale
         );
         if self.passes == 0 {
             println!("no shader was compared");
@@ -325,7 +330,7 @@ fn files(folder: &Path) -> Result<Vec<PathBuf>, String> {
 }
 
 /// Compares on each shader of the folders, or of those written for this, and prints the table. True if there were
-/// passes and nothing parted; of the own shaders each must be read and valid.
+/// passes and nothing parted; of the own shaders each must be read, and valid after each pass.
 pub fn shaders(library: &dyn Library, folders: &[PathBuf]) -> Result<bool, String> {
     let own = [PathBuf::from(OWN)];
     let folders = if folders.is_empty() { &own } else { folders };
@@ -346,6 +351,6 @@ pub fn shaders(library: &dyn Library, folders: &[PathBuf]) -> Result<bool, Strin
         }
     }
     totals.print();
-    let whole = folders != own || totals.unread + totals.invalid == 0;
+    let whole = folders != own || totals.unread + totals.invalid[1] == 0;
     Ok(totals.passes > 0 && totals.parted == 0 && whole)
 }
