@@ -1,11 +1,13 @@
 //! Shaders: read by the crate's front ends, compacted by the crate and by the library, and held against each other.
 
-use crate::compare::same_pass;
+use crate::compare::{judge, same_pass};
 use crate::expect::expect_check;
 use crate::flat::*;
+use crate::generate::Foretold;
 use crate::handles::handle;
 use crate::host;
 use crate::library::{Lent, Library};
+use crate::report::Stats;
 use crate::rust::caught;
 use naga::compact::{compact, KeepUnused};
 use naga::front::{glsl, wgsl};
@@ -164,7 +166,8 @@ impl Shader {
         let maps = lent.maps.each_ref().map(|map| map.get().to_vec());
         let rebuilt = host::rebuild(library, &self.settled, &reached, &maps);
         let same = same_pass("the library against naga", answer, &lent, &left.after)
-            .and_then(|()| same_module(&left.module, rebuilt.as_ref().map_err(String::clone)?));
+            .and_then(|()| same_module(&left.module, rebuilt.as_ref().map_err(String::clone)?))
+            .and_then(|()| as_generated(library, &flat));
         Ok(Some(Pass {
             before: std::array::from_fn(|area| flat.records(area) as u32),
             by_crate: std::array::from_fn(|area| left.after.counts[area]),
@@ -173,6 +176,14 @@ impl Shader {
             stale: left.stale,
             same,
         }))
+    }
+}
+
+/// All comparisons of a generated module, on the words of a shader.
+fn as_generated(library: &dyn Library, flat: &Flat) -> Verdict {
+    match judge(library, flat, Foretold::Accepted, 1, &mut Stats::default()) {
+        Ok(_) => Ok(()),
+        Err(difference) => Err(difference.what),
     }
 }
 
@@ -283,7 +294,9 @@ impl Totals {
             self.remark(name, &format!("{flag}: {why}"));
         }
         for after in pass.valid.iter().filter(|after| *after != before) {
-            self.remark(name, &format!("{flag}: the validator then says {after:?}"));
+            if let Err(why) = after {
+                self.remark(name, &format!("{flag}: not valid after the pass: {why}"));
+            }
         }
     }
 
