@@ -112,7 +112,21 @@ fn same_answer(who: &str, answer: Answer, wanted: Answer) -> Verdict {
     if answer == wanted {
         return Ok(());
     }
-    Err(format!("{who} answered {answer:?} and not {wanted:?}"))
+    let line = |answer: Answer| {
+        let counts = answer.counts.map(|count| count.to_string()).join(" ");
+        let Answer {
+            number,
+            area,
+            record,
+            ..
+        } = answer;
+        format!("{number} {area} {record} {counts}")
+    };
+    Err(format!(
+        "{who} answered {} and not {}",
+        line(answer),
+        line(wanted)
+    ))
 }
 
 /// Every lent word is as it was lent.
@@ -204,12 +218,16 @@ fn accepted(
     let records = std::array::from_fn(|area| flat.records(area));
     map_tails("compact", records, &lent, seed)?;
     count(flat, &by_closure, &marks, stats);
+    stats.kept(keep, &by_closure.counts);
     lent_whole(library, &lent)?;
     second_pass(library, &by_closure, keep, seed)?;
     stats.count(Counted::SecondPasses, 1);
     let mut rng = Rng::part(seed, 77);
     for map in &by_closure.maps {
-        entries(library, map, &mut rng, stats)?;
+        // Long maps more often, so that their ends have their turn.
+        for _ in 0..=map.len() / 256 {
+            entries(library, map, &mut rng, stats)?;
+        }
     }
     Ok(())
 }
@@ -336,12 +354,14 @@ pub fn entries(library: &dyn Library, map: &[u32], rng: &mut Rng, stats: &mut St
     Ok(())
 }
 
-/// A handle in the map, at its end or past it.
+/// A handle in the map, at its end or past it; also one in the map but for a high bit.
 fn any_handle(map: &[u32], rng: &mut Rng) -> u32 {
     match rng.below(16) {
         0 => N,
-        1 => rng.word(),
+        1 if rng.one_in(2) => rng.word(),
+        1 => rng.below32(map.len() + 1) | 1 << rng.between(8, 31),
         2 => map.len() as u32,
+        3 => map.len().saturating_sub(1) as u32,
         _ => rng.below32(map.len() + 2),
     }
 }
@@ -350,10 +370,13 @@ fn same_entry(who: &str, map: &[u32], asked: &[u32], got: &[u32], wanted: &[u32]
     if got == wanted {
         return Ok(());
     }
-    let map: Vec<String> = map.iter().take(64).map(|word| shown(*word)).collect();
+    let list = |words: &[u32]| {
+        let words: Vec<String> = words.iter().take(64).map(|word| shown(*word)).collect();
+        words.join(" ")
+    };
+    let (asked, got, wanted, map) = (list(asked), list(got), list(wanted), list(map));
     Err(format!(
-        "{who} of {asked:?} on map {}: {got:?} and not {wanted:?}",
-        map.join(" ")
+        "{who} of {asked}: {got} and not {wanted}, on map [{map}]"
     ))
 }
 

@@ -93,6 +93,7 @@ fn lend_map(map: &[u32]) -> (Word, usize) {
 impl Library for Linked {
     fn compact(&self, lent: &mut Lent, keep: bool) -> Answer {
         let null = lent.null;
+        let flag = if keep { lent.yes } else { 0 };
         let a = lent.areas.each_mut().map(|slice| lend_mut(slice, null));
         let m = lent.maps.each_mut().map(|slice| lend_mut(slice, null));
         // SAFETY: thirteen slices of their own allocations, each with its own length.
@@ -102,7 +103,7 @@ impl Library for Linked {
                 a[0].0, a[0].1, a[1].0, a[1].1, a[2].0, a[2].1, a[3].0, a[3].1,
                 a[4].0, a[4].1, a[5].0, a[5].1, a[6].0, a[6].1, a[7].0, a[7].1,
                 m[0].0, m[0].1, m[1].0, m[1].1, m[2].0, m[2].1, m[3].0, m[3].1,
-                m[4].0, m[4].1, u32::from(keep),
+                m[4].0, m[4].1, flag,
             )
         };
         answer

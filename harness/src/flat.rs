@@ -46,6 +46,7 @@ pub const CONSTANT: u32 = 5;
 pub const OVERRIDE: u32 = 6;
 pub const COMPOSE: u32 = 8;
 pub const GLOBAL_VARIABLE: u32 = 13;
+pub const LOAD: u32 = 14;
 pub const IMAGE_SAMPLE: u32 = 15;
 pub const IMAGE_QUERY: u32 = 17;
 pub const CALL_RESULT: u32 = 27;

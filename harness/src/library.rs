@@ -56,16 +56,23 @@ pub struct Lent {
     /// Whether an empty slice is lent as a null pointer.
     #[cfg_attr(not(library), allow(dead_code))]
     pub null: bool,
+    /// The word that stands for Yes: any but 0.
+    pub yes: u32,
 }
+
+const YES: [u32; 8] = [1, 1, 1, 2, 1 << 8, 1 << 16, 1 << 31, u32::MAX];
 
 impl Lent {
     /// The words of a module, with `fill` of its place in each word of each map.
     pub fn new(flat: &Flat, fill: impl Fn(usize) -> u32) -> Self {
-        let null = flat.words().is_multiple_of(2);
+        let words = flat.words();
+        let null = words.is_multiple_of(2);
+        let yes = YES[words / 2 % YES.len()];
         Lent {
             areas: std::array::from_fn(|area| Slice::new(flat.areas[area].iter().copied())),
             maps: std::array::from_fn(|area| Slice::new((0..flat.rooms[area]).map(&fill))),
             null,
+            yes,
         }
     }
 
@@ -80,9 +87,24 @@ impl Lent {
             rooms: std::array::from_fn(|area| self.maps[area].get().len()),
         }
     }
+
+    /// Writes what an accepted pass leaves, and gives its answer.
+    pub fn leave(&mut self, after: &After) -> Answer {
+        for (slice, words) in self.areas.iter_mut().zip(&after.areas) {
+            slice.get_mut().copy_from_slice(words);
+        }
+        for (slice, map) in self.maps.iter_mut().zip(&after.maps) {
+            slice.get_mut()[..map.len()].copy_from_slice(map);
+        }
+        Answer {
+            counts: after.counts,
+            ..Answer::default()
+        }
+    }
 }
 
 pub trait Library: Sync {
+    /// A pass; `keep` is the flag, Yes or No.
     fn compact(&self, lent: &mut Lent, keep: bool) -> Answer;
     fn check(&self, lent: &Lent) -> Answer;
     fn lookup(&self, map: &[u32], handle: u32) -> u32;
@@ -102,19 +124,7 @@ impl Library for Restated {
             return refusal.answer();
         }
         let after = closure::after(&flat, &closure::closure(&flat, keep));
-        for area in 0..8 {
-            lent.areas[area]
-                .get_mut()
-                .copy_from_slice(&after.areas[area]);
-        }
-        for area in 0..5 {
-            let map = &after.maps[area];
-            lent.maps[area].get_mut()[..map.len()].copy_from_slice(map);
-        }
-        Answer {
-            counts: after.counts,
-            ..Answer::default()
-        }
+        lent.leave(&after)
     }
 
     fn check(&self, lent: &Lent) -> Answer {

@@ -1,16 +1,21 @@
 //! What a run counts, and the table it prints.
 
+use crate::flat::{COMPONENTS, LIMITS, MEMBERS, TYPES};
 use std::collections::BTreeMap;
 
-pub const GENERATORS: [&str; 7] = [
+pub const GENERATORS: [&str; 8] = [
     "small",
     "good",
     "nearly",
     "damaged",
     "two faults",
     "wild",
+    "whole",
     "maps",
 ];
+
+/// The last generator makes maps and no modules.
+const MADE_MAPS: usize = 7;
 
 /// Some numbers that are added up place by place.
 #[derive(Clone)]
@@ -61,7 +66,7 @@ pub enum Counted {
 #[derive(Clone, Default)]
 pub struct Stats {
     /// Modules, for each generator and verdict (0 is accepted); for `maps`, maps at 0.
-    pub modules: [Tally<8>; 7],
+    pub modules: [Tally<8>; 8],
     /// Passes, for each flag: accepted, refused.
     pub passes: [Tally<2>; 2],
     numbers: Tally<12>,
@@ -76,11 +81,22 @@ pub struct Stats {
     pub refused: BTreeMap<(u32, String), u64>,
     /// The most records of an accepted module, for each area.
     pub longest: [usize; 8],
+    /// The most records that an accepted pass kept, for each flag and area.
+    most_kept: [[u32; 7]; 2],
+    /// Accepted passes that kept all that an arena can have: those that did not keep all that both pools
+    /// can have, and those that did.
+    kept_full: [Tally<5>; 2],
 }
 
 fn add_each<const SIZE: usize>(mine: &mut [Tally<SIZE>], theirs: &[Tally<SIZE>]) {
     for (mine, theirs) in mine.iter_mut().zip(theirs) {
         mine.add(theirs);
+    }
+}
+
+fn raise<T: Copy + Ord>(mine: &mut [T], theirs: &[T]) {
+    for (mine, theirs) in mine.iter_mut().zip(theirs) {
+        *mine = (*mine).max(*theirs);
     }
 }
 
@@ -108,13 +124,29 @@ impl Stats {
         self.roads.add(&other.roads);
         add_map(&mut self.faults, &other.faults);
         add_map(&mut self.refused, &other.refused);
-        for (mine, theirs) in self.longest.iter_mut().zip(other.longest) {
-            *mine = (*mine).max(theirs);
+        raise(&mut self.longest, &other.longest);
+        for (mine, theirs) in self.most_kept.iter_mut().zip(&other.most_kept) {
+            raise(mine, theirs);
+        }
+        add_each(&mut self.kept_full, &other.kept_full);
+    }
+
+    /// Notes how much an accepted pass kept.
+    pub fn kept(&mut self, keep: bool, counts: &[u32; 7]) {
+        raise(&mut self.most_kept[usize::from(keep)], counts);
+        let full = |area: usize| counts[area] as usize == LIMITS[area];
+        let pools = usize::from(full(MEMBERS) && full(COMPONENTS));
+        for area in 0..5 {
+            self.kept_full[pools].0[area] += u64::from(full(area));
         }
     }
 
     pub fn all_modules(&self) -> u64 {
-        self.modules[..6].iter().map(Tally::sum).sum()
+        self.modules[..MADE_MAPS].iter().map(Tally::sum).sum()
+    }
+
+    pub fn made_maps(&self) -> u64 {
+        self.modules[MADE_MAPS].sum()
     }
 
     pub fn all_passes(&self) -> u64 {
@@ -156,7 +188,7 @@ impl Stats {
         };
         let heads = ["accepted", "1", "2", "3", "4", "5", "6", "7"].map(String::from);
         let mut lines = vec![row("generator", heads)];
-        for (name, counts) in GENERATORS[..6].iter().zip(&self.modules) {
+        for (name, counts) in GENERATORS[..MADE_MAPS].iter().zip(&self.modules) {
             lines.push(row(name, counts.0.map(|count| count.to_string())));
         }
         lines
@@ -189,13 +221,22 @@ impl Stats {
         lines.push(format!(
             "map entries: {} answers, on the maps of passes and on {} made maps; {} of them held against the published map; {} ranges of function bodies",
             self.number(Counted::Entries),
-            self.modules[6].sum(),
+            self.made_maps(),
             self.number(Counted::EntriesAgainstRust),
             self.number(Counted::Emits)
         ));
         lines.push(format!(
             "most records of an accepted module, areas 0 to 7: {:?}",
             self.longest
+        ));
+        let [no, yes] = self.most_kept;
+        lines.push(format!(
+            "most records that one pass kept, areas 0 to 6: with No {no:?}, with Yes {yes:?}"
+        ));
+        let [without, with] = &self.kept_full;
+        lines.push(format!(
+            "passes that kept {} records of an arena, areas 0 to 4: {:?}; and {} words of each pool: {:?}",
+            LIMITS[TYPES], without.0, LIMITS[MEMBERS], with.0
         ));
         lines
     }

@@ -9,6 +9,7 @@ use crate::flat::*;
 use crate::generate::damaged::{damage, damage_twice};
 use crate::generate::good::{good, nearly, Size};
 use crate::generate::small::Small;
+use crate::generate::whole::whole;
 use crate::generate::wild::wild;
 use crate::generate::Foretold;
 use crate::library::Library;
@@ -31,13 +32,14 @@ enum Generator {
     Damaged,
     TwoFaults,
     Wild,
+    Whole,
     Maps,
 }
 
-use Generator::{Damaged, Good, Maps, Nearly, TwoFaults, Wild};
+use Generator::{Damaged, Good, Maps, Nearly, TwoFaults, Whole, Wild};
 
 /// The turns of the generators.
-const TURNS: [Generator; 10] = [
+const TURNS: [Generator; 11] = [
     Generator::Small,
     Good,
     Damaged,
@@ -48,6 +50,7 @@ const TURNS: [Generator; 10] = [
     TwoFaults,
     Good,
     Maps,
+    Whole,
 ];
 const SMALL_TURNS: u64 = 3;
 const SMALL_BLOCK: u64 = 256;
@@ -196,6 +199,7 @@ fn run_block(
         Damaged => bench.damaged(),
         TwoFaults => bench.two_faults(),
         Wild => bench.wild(),
+        Whole => bench.whole(round),
         Maps => bench.maps(),
     }
 }
@@ -266,7 +270,8 @@ impl Bench<'_> {
     }
 
     fn damaged(&mut self) -> Verdict {
-        for _ in 0..96 {
+        for number in 0..96 {
+            let base = |rng: &mut Rng| base(rng, number);
             if let Some((flat, sort, refusal)) = damage(&mut self.rng, base) {
                 *self.stats.faults.entry(sort).or_default() += 1;
                 self.judge(flat, Foretold::Refused(refusal))?;
@@ -276,8 +281,8 @@ impl Bench<'_> {
     }
 
     fn two_faults(&mut self) -> Verdict {
-        for _ in 0..96 {
-            let base = base(&mut self.rng);
+        for number in 0..96 {
+            let base = base(&mut self.rng, number);
             if let Some((flat, refusal)) = damage_twice(base, &mut self.rng) {
                 self.judge(flat, Foretold::Refused(refusal))?;
             }
@@ -293,12 +298,16 @@ impl Bench<'_> {
         Ok(())
     }
 
+    /// One module, since it is large.
+    fn whole(&mut self, round: u64) -> Verdict {
+        let flat = whole(&mut self.rng, round);
+        self.judge(flat, Foretold::Accepted)
+    }
+
     /// Made maps, rising as those of a pass and others.
     fn maps(&mut self) -> Verdict {
         for _ in 0..128 {
-            let result = self.one_map();
-            self.stats.modules[Maps as usize].0[0] += 1;
-            result.map_err(|what| {
+            self.one_map().map_err(|what| {
                 Box::new(Failure {
                     flat: Flat::default(),
                     seed: 0,
@@ -306,6 +315,7 @@ impl Bench<'_> {
                     difference: Difference { keep: None, what },
                 })
             })?;
+            self.stats.modules[Maps as usize].0[0] += 1;
         }
         Ok(())
     }
@@ -331,9 +341,13 @@ impl Bench<'_> {
     }
 }
 
-/// A module to take faults.
-fn base(rng: &mut Rng) -> Flat {
-    let size = *rng.pick(&[Size::Tiny, Size::Small]);
+/// A module to take faults: the first of a block large, so that they stand at high places too.
+fn base(rng: &mut Rng, number: usize) -> Flat {
+    let size = match number {
+        0 => Size::Full,
+        1 => Size::Medium,
+        _ => *rng.pick(&[Size::Tiny, Size::Small]),
+    };
     good(rng, size)
 }
 

@@ -54,8 +54,7 @@ impl<F: FnMut(&Flat) -> bool> Shrinker<F> {
 
     /// Takes the candidate if it is smaller and still fails.
     fn attempt(&mut self, candidate: Flat) -> bool {
-        let better =
-            size(&candidate) < size(&self.best) && !self.late() && (self.fails)(&candidate);
+        let better = size(&candidate) < size(&self.best) && (self.fails)(&candidate);
         if better {
             self.best = candidate;
         }
@@ -76,7 +75,7 @@ impl<F: FnMut(&Flat) -> bool> Shrinker<F> {
 
     fn drop_stretches(&mut self, area: usize, stretch: usize) {
         let mut place = self.best.areas[area].len().div_ceil(WIDTHS[area]);
-        while place > 0 {
+        while place > 0 && !self.late() {
             place = place.saturating_sub(stretch);
             let gone = without(&self.best, area, place, stretch, true);
             if !self.attempt(gone) && self.best.words() <= FEW_WORDS {
@@ -90,6 +89,9 @@ impl<F: FnMut(&Flat) -> bool> Shrinker<F> {
     fn simpler_words(&mut self) {
         for area in 0..8 {
             for at in 0..self.best.areas[area].len() {
+                if self.late() {
+                    return;
+                }
                 let word = self.best.areas[area][at];
                 for simple in [N, 0, word / 2, word.saturating_sub(1)] {
                     if weight(simple) < weight(word) {

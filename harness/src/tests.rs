@@ -7,6 +7,7 @@ use crate::flat::*;
 use crate::generate::damaged::{damage, damage_twice, damage_with, FAULTS};
 use crate::generate::good::{good, nearly, Size};
 use crate::generate::small::Small;
+use crate::generate::whole::{whole, FULL};
 use crate::generate::wild::wild;
 use crate::generate::Foretold;
 use crate::library::{Lent, Library, Restated};
@@ -15,7 +16,7 @@ use crate::rng::Rng;
 use crate::run::{self, Plan};
 use crate::shrink::shrink;
 use crate::text::{parse, replayed, written, Case};
-use crate::{maps, replay};
+use crate::{closure, maps, replay};
 
 /// The library that the tests are about: the linked one if there is one.
 #[cfg(library)]
@@ -301,6 +302,26 @@ fn good_modules_reach_the_limits() {
         }
     }
     assert_eq!(longest, LIMITS);
+}
+
+/// With either flag, and with both pools at their limit by turns.
+#[test]
+fn whole_modules_keep_arenas_at_their_limit() {
+    let mut rng = Rng::new(2);
+    for turn in 0..2 * FULL.len() as u64 {
+        let flat = whole(&mut rng, turn);
+        assert_eq!(expect_check(&flat), None);
+        for keep in [false, true] {
+            let after = closure::after(&flat, &closure::closure(&flat, keep));
+            for area in FULL[turn as usize / 2] {
+                assert_eq!(after.counts[*area] as usize, LIMITS[*area], "turn {turn}");
+            }
+            for pool in [MEMBERS, COMPONENTS] {
+                let full = after.counts[pool] as usize == LIMITS[pool];
+                assert_eq!(full, turn.is_multiple_of(2), "turn {turn}");
+            }
+        }
+    }
 }
 
 #[test]

@@ -97,9 +97,12 @@ pub fn damage(
     None
 }
 
-/// A module with two faults that do not touch each other, and the refusal that comes first.
+/// A module with two faults that do not touch each other, often of one sort, and the refusal that comes
+/// first.
 pub fn damage_twice(flat: Flat, rng: &mut Rng) -> Option<(Flat, Refusal)> {
-    let mut pair = [pick(rng), pick(rng)];
+    let first = pick(rng);
+    let second = if rng.one_in(4) { first } else { pick(rng) };
+    let mut pair = [first, second];
     if pair[0].layout && pair[1].layout {
         return None;
     }
@@ -111,10 +114,10 @@ pub fn damage_twice(flat: Flat, rng: &mut Rng) -> Option<(Flat, Refusal)> {
     Some((damager.flat, one.min(other)))
 }
 
-/// A sort of fault; the limits seldom, since they make large modules.
+/// A sort of fault; the limits less often, since they make large modules.
 fn pick(rng: &mut Rng) -> &'static Fault {
     let fault = rng.pick(&FAULTS);
-    if fault.number == 2 && !rng.one_in(20) {
+    if fault.number == 2 && !rng.one_in(4) {
         return rng.pick(&FAULTS[3..]);
     }
     fault
@@ -387,7 +390,11 @@ impl Damager {
     fn pool_longer(&mut self) -> Option<Refusal> {
         let pool = *self.rng.pick(&[MEMBERS, COMPONENTS]);
         self.resize(pool)?;
-        for _ in 0..self.rng.between(1, 3) {
+        let room = LIMITS[pool] - self.flat.areas[pool].len();
+        if room == 0 {
+            return None;
+        }
+        for _ in 0..self.rng.between(1, room.min(3)) {
             let word = self.not_none();
             self.flat.areas[pool].push(word);
         }

@@ -20,25 +20,31 @@ pub enum Size {
 }
 
 /// Which of the elements that are there a new one names.
-#[derive(Clone, Copy)]
-enum Style {
+#[derive(Clone, Copy, PartialEq, Eq)]
+pub(super) enum Style {
     Any,
     Young,
     Old,
+    /// One that nothing names yet, as long as there is one.
+    Loose,
+    /// The same, and each type and each expression names one of its own area, mostly the last one.
+    Chain,
 }
 
-struct Grower<'a> {
-    flat: Flat,
-    rng: &'a mut Rng,
-    style: Style,
+pub(super) struct Grower<'a> {
+    pub flat: Flat,
+    pub rng: &'a mut Rng,
+    pub style: Style,
     /// Records still to come, of areas 0 to 4.
-    left: [usize; 5],
-    longest_run: usize,
+    pub left: [usize; 5],
+    /// Elements of areas 0 to 4 that nothing names yet; only for the styles that ask for them.
+    pub loose: [Vec<u32>; 5],
+    pub longest_run: usize,
     /// Whether the last type and the last expression fill their pools.
-    fill: bool,
-    named: usize,
+    pub fill: bool,
+    pub named: usize,
     /// Whether many types are sized by overrides and many overrides have an init.
-    sized: bool,
+    pub sized: bool,
 }
 
 /// A module that is accepted.
@@ -90,19 +96,28 @@ fn grown(rng: &mut Rng, size: Size) -> Flat {
         rng,
         style,
         left,
+        loose: Default::default(),
         longest_run,
         fill: size == Size::Full,
         named,
         sized,
     };
-    while let Some(area) = grower.next_area() {
-        grower.left[area] -= 1;
-        grower.grow(area);
-    }
+    grower.grow_all();
     grower.flat
 }
 
 impl Grower<'_> {
+    /// Grows the records that are to come.
+    pub fn grow_all(&mut self) {
+        while let Some(area) = self.next_area() {
+            self.left[area] -= 1;
+            self.grow(area);
+            if let Style::Loose | Style::Chain = self.style {
+                self.loose[area].push(self.flat.records(area) as u32 - 1);
+            }
+        }
+    }
+
     /// An area that has records to come and something to name.
     fn next_area(&mut self) -> Option<usize> {
         let types = self.flat.records(TYPES) > 0;
@@ -147,11 +162,16 @@ impl Grower<'_> {
 
     /// A handle of an element that is there.
     fn handle(&mut self, area: usize) -> u32 {
+        let loose = &mut self.loose[area];
+        if !loose.is_empty() {
+            return loose.swap_remove(self.rng.below(loose.len()));
+        }
         let count = self.flat.records(area);
         let near = count.min(4);
         let place = match self.style {
             Style::Young if !self.rng.one_in(4) => count - 1 - self.rng.below(near),
             Style::Old if !self.rng.one_in(4) => self.rng.below(near),
+            Style::Chain => count - 1,
             _ => self.rng.below(count),
         };
         place as u32
@@ -176,7 +196,8 @@ impl Grower<'_> {
         } else if self.fill && self.left[area] == 0 {
             room
         } else {
-            self.rng.below(self.longest_run + 1).min(room)
+            let least = usize::from(self.style == Style::Chain);
+            self.rng.between(least, self.longest_run).min(room)
         };
         for _ in 0..count {
             let item = self.handle(area);
@@ -195,7 +216,7 @@ impl Grower<'_> {
             1 if any => 1,
             2 if sizers => 2,
             3 => 3,
-            _ => 0,
+            _ => u32::from(any && self.style == Style::Chain),
         };
         let (a, b) = match kind {
             0 => (N, N),
@@ -211,9 +232,13 @@ impl Grower<'_> {
 
     fn grow_expression(&mut self, tag: u32) {
         let last = self.fill && self.left[EXPRESSIONS] == 0;
+        let any = self.flat.records(EXPRESSIONS) > 0;
         let kind = match self.rng.below32(EXPRESSION_KINDS as usize) {
             _ if last && self.flat.records(TYPES) > 0 => COMPOSE,
+            _ if self.takes_loose(OVERRIDES, 2) => OVERRIDE,
+            _ if self.takes_loose(CONSTANTS, 8) => CONSTANT,
             kind if self.possible(kind) => kind,
+            _ if any && self.style == Style::Chain => LOAD,
             kind => kind % 5,
         };
         let mut record = [N; 11];
@@ -239,13 +264,22 @@ impl Grower<'_> {
         self.flat.push(EXPRESSIONS, &record);
     }
 
-    /// Whether there is something for each slot that such an expression needs.
+    /// Whether an expression names a constant or an override that nothing names yet, once in `times`.
+    fn takes_loose(&mut self, area: usize, times: usize) -> bool {
+        self.style == Style::Loose && !self.loose[area].is_empty() && self.rng.one_in(times)
+    }
+
+    /// Whether there is something for each slot that such an expression needs; in a chain it must name
+    /// an expression.
     fn possible(&self, kind: u32) -> bool {
         let mut record = [N; 11];
         record[0] = kind;
+        let slots = expression_slots(&record);
+        let links = |slot: &Slot| matches!(slot, Slot::Need(EXPRESSIONS) | Slot::Start);
         kind != GLOBAL_VARIABLE
             && kind != CALL_RESULT
-            && expression_slots(&record).iter().all(|slot| match *slot {
+            && (self.style != Style::Chain || slots.iter().any(links))
+            && slots.iter().all(|slot| match *slot {
                 Slot::Need(area) => self.flat.records(area) > 0,
                 _ => true,
             })

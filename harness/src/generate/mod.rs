@@ -3,6 +3,7 @@
 pub mod damaged;
 pub mod good;
 pub mod small;
+pub mod whole;
 pub mod wild;
 
 use crate::flat::{Flat, Refusal, N};
