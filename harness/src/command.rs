@@ -1,7 +1,7 @@
 //! The command line.
 
 use crate::library::{Library, Restated};
-use crate::{replay, run};
+use crate::{mutants, replay, run};
 use std::path::{Path, PathBuf};
 use std::process::ExitCode;
 
@@ -15,6 +15,8 @@ harness time --module FILE --flag yes|no [--turns T]
     times the published Rust on one module of lines `raw AREA words`: median, lower and upper quartile in ns
 harness shaders [--library linked|restated] [FOLDER ...]
     over the crate naga only: shaders compacted by naga and by the library; without folders, those in harness/shaders
+harness mutants [--library linked|restated]
+    runs wrong libraries, each like that one but for one thing, until each is caught; status 1 if one is not
 harness replay [--library linked|restated] FILE.stdin ...
     holds the library to recorded answers; without files, to those in crates/cases/answers";
 
@@ -80,6 +82,7 @@ pub fn main(mut words: Vec<String>) -> ExitCode {
         "record" => record_command(&arguments).map(status),
         "replay" => replay_command(&arguments).map(status),
         "shaders" => shaders_command(&arguments).map(status),
+        "mutants" => mutants_command(&arguments).map(status),
         "time" => time_command(&arguments).map(status),
         _ => Err(String::from(USAGE)),
     };
@@ -224,6 +227,11 @@ fn record_command(_arguments: &Arguments) -> Result<bool, String> {
     Err(String::from(
         "the published sources are not here (NAGA_SRC); nothing to record",
     ))
+}
+
+/// True if each wrong library is caught.
+fn mutants_command(arguments: &Arguments) -> Result<bool, String> {
+    Ok(mutants::table(arguments.library()?))
 }
 
 fn replay_command(arguments: &Arguments) -> Result<bool, String> {

@@ -34,7 +34,6 @@ impl Slice {
     }
 
     /// Writes past the slice's end, as a wrong library would.
-    #[cfg(test)]
     pub fn break_guard(&mut self) {
         let end = self.words.len() - GUARD;
         self.words[end] = 0;

@@ -20,6 +20,7 @@ mod library;
 #[cfg(files)]
 mod made_maps;
 mod maps;
+mod mutants;
 #[cfg(published)]
 mod places;
 #[cfg(published)]

@@ -128,7 +128,7 @@ fn watch(plan: &Plan, shared: &Shared) {
     let begin = Instant::now();
     let mut told = begin;
     while shared.busy.load(Ordering::SeqCst) > 0 {
-        std::thread::sleep(Duration::from_millis(50));
+        std::thread::sleep(Duration::from_millis(10));
         if begin.elapsed() >= Duration::from_secs(plan.seconds) {
             shared.stop.store(true, Ordering::SeqCst);
         }
@@ -204,6 +204,16 @@ fn run_block(
     }
 }
 
+/// Whether a library passes where another one failed.
+pub fn passes(library: &dyn Library, seed: u64, failure: &Failure) -> bool {
+    let mut stats = Stats::default();
+    let Failure { flat, block, .. } = failure;
+    if TURNS[(block % TURNS.len() as u64) as usize] == Maps {
+        return run_block(library, &Small::new(), seed, *block, &mut stats).is_ok();
+    }
+    judge(library, flat, Foretold::Nothing, failure.seed, &mut stats).is_ok()
+}
+
 struct Bench<'a> {
     library: &'a dyn Library,
     block: u64,
@@ -240,13 +250,13 @@ impl Bench<'_> {
         Ok(())
     }
 
-    /// Tiny and small modules, some of medium size; now and then a large one.
+    /// Tiny and small modules, some of medium size; now and then a large one at the end.
     fn good(&mut self, round: u64) -> Verdict {
         for number in 0..64 {
             let size = match number {
-                0 if round.is_multiple_of(8) => Size::Full,
-                0 if round % 8 == 4 => Size::Large,
-                0 | 1 => Size::Medium,
+                63 if round.is_multiple_of(8) => Size::Full,
+                63 if round % 8 == 4 => Size::Large,
+                62 | 63 => Size::Medium,
                 _ if number % 3 == 0 => Size::Small,
                 _ => Size::Tiny,
             };
@@ -270,7 +280,7 @@ impl Bench<'_> {
     }
 
     fn damaged(&mut self) -> Verdict {
-        for number in 0..96 {
+        for number in 0..FAULTY {
             let base = |rng: &mut Rng| base(rng, number);
             if let Some((flat, sort, refusal)) = damage(&mut self.rng, base) {
                 *self.stats.faults.entry(sort).or_default() += 1;
@@ -281,7 +291,7 @@ impl Bench<'_> {
     }
 
     fn two_faults(&mut self) -> Verdict {
-        for number in 0..96 {
+        for number in 0..FAULTY {
             let base = base(&mut self.rng, number);
             if let Some((flat, refusal)) = damage_twice(base, &mut self.rng) {
                 self.judge(flat, Foretold::Refused(refusal))?;
@@ -341,11 +351,14 @@ impl Bench<'_> {
     }
 }
 
-/// A module to take faults: the first of a block large, so that they stand at high places too.
+/// How many modules take faults in a block.
+const FAULTY: usize = 96;
+
+/// A module to take faults: the last of a block large, so that they stand at high places too.
 fn base(rng: &mut Rng, number: usize) -> Flat {
-    let size = match number {
-        0 => Size::Full,
-        1 => Size::Medium,
+    let size = match FAULTY - number {
+        1 => Size::Full,
+        2 => Size::Medium,
         _ => *rng.pick(&[Size::Tiny, Size::Small]),
     };
     good(rng, size)

@@ -10,7 +10,8 @@ use crate::generate::small::Small;
 use crate::generate::whole::{whole, FULL};
 use crate::generate::wild::wild;
 use crate::generate::Foretold;
-use crate::library::{Lent, Library, Restated};
+use crate::library::{Library, Restated};
+use crate::mutants::{self, MUTANTS};
 use crate::report::Stats;
 use crate::rng::Rng;
 use crate::run::{self, Plan};
@@ -23,116 +24,6 @@ use crate::{closure, maps, replay};
 const RIGHT: &dyn Library = &crate::ffi::Linked;
 #[cfg(not(library))]
 const RIGHT: &dyn Library = &Restated;
-
-/// A way in which an answer is wrong.
-#[derive(Clone, Copy, Debug, PartialEq)]
-enum Wrong {
-    Count(usize),
-    AreaWord(usize),
-    MapWord(usize),
-    MapTail,
-    Guard,
-    Number,
-    Area,
-    Record,
-    WritesOnRefusal(usize),
-    WritesMapOnRefusal,
-    RefusesGood,
-    AcceptsBad,
-    CheckNumber,
-    CheckRecord,
-    SecondPass,
-    Lookup,
-    Adjust,
-    RangeStart,
-    RangeEnd,
-}
-
-/// Answers like the right library, but for one thing.
-struct Faulty(Wrong);
-
-/// Adds one to the first word of a slice.
-fn bump(words: &mut [u32]) {
-    if let Some(word) = words.first_mut() {
-        *word = word.wrapping_add(1);
-    }
-}
-
-impl Faulty {
-    fn spoil(&self, lent: &mut Lent, answer: &mut Answer, records: [usize; 5]) {
-        let accepted = answer.number == 0;
-        match self.0 {
-            Wrong::Count(area) if accepted => answer.counts[area] += 1,
-            Wrong::AreaWord(area) if accepted => bump(lent.areas[area].get_mut()),
-            Wrong::MapWord(area) if accepted => bump(lent.maps[area].get_mut()),
-            Wrong::MapTail if accepted => {
-                for (map, count) in lent.maps.iter_mut().zip(records) {
-                    bump(&mut map.get_mut()[count..]);
-                }
-            }
-            Wrong::Guard => lent.areas[0].break_guard(),
-            Wrong::Number if !accepted => answer.number += 1,
-            Wrong::Area if !accepted => answer.area += 1,
-            Wrong::Record if !accepted => answer.record += 1,
-            Wrong::WritesOnRefusal(area) if !accepted => bump(lent.areas[area].get_mut()),
-            Wrong::WritesMapOnRefusal if !accepted => bump(lent.maps[4].get_mut()),
-            Wrong::RefusesGood if accepted => *answer = Refusal::new(7, 4, 0).answer(),
-            Wrong::AcceptsBad => *answer = Answer::default(),
-            Wrong::SecondPass if accepted && keeps_all(answer, records) => {
-                bump(lent.areas[MENTIONS].get_mut());
-            }
-            _ => {}
-        }
-    }
-}
-
-/// Whether a pass kept every record, as a second pass does.
-fn keeps_all(answer: &Answer, records: [usize; 5]) -> bool {
-    (0..5).all(|area| answer.counts[area] as usize == records[area])
-}
-
-impl Library for Faulty {
-    fn compact(&self, lent: &mut Lent, keep: bool) -> Answer {
-        let records = std::array::from_fn(|area| lent.areas[area].get().len() / WIDTHS[area]);
-        let mut answer = RIGHT.compact(lent, keep);
-        self.spoil(lent, &mut answer, records);
-        answer
-    }
-
-    fn check(&self, lent: &Lent) -> Answer {
-        let mut answer = RIGHT.check(lent);
-        match self.0 {
-            Wrong::CheckNumber => answer.number += 1,
-            Wrong::CheckRecord => answer.record += 1,
-            _ => {}
-        }
-        answer
-    }
-
-    fn lookup(&self, map: &[u32], handle: u32) -> u32 {
-        RIGHT
-            .lookup(map, handle)
-            .wrapping_add(u32::from(self.0 == Wrong::Lookup))
-    }
-
-    fn adjust(&self, map: &[u32], handle: u32) -> [u32; 2] {
-        let mut answer = RIGHT.adjust(map, handle);
-        if self.0 == Wrong::Adjust {
-            answer[1] = answer[1].wrapping_add(1);
-        }
-        answer
-    }
-
-    fn adjust_range(&self, map: &[u32], start: u32, end: u32) -> [u32; 3] {
-        let mut answer = RIGHT.adjust_range(map, start, end);
-        match self.0 {
-            Wrong::RangeStart => answer[1] = answer[1].wrapping_add(1),
-            Wrong::RangeEnd => answer[2] = answer[2].wrapping_add(1),
-            _ => {}
-        }
-        answer
-    }
-}
 
 /// Modules of every generator, with what is foretold of them.
 fn modules(seed: u64, count: usize) -> Vec<(Flat, Foretold)> {
@@ -171,32 +62,28 @@ fn right_answers_pass() {
     assert_eq!(first_difference(&Restated), None);
 }
 
+/// Each is caught in a run of its own, half of them on each of two threads.
 #[test]
-fn wrong_answers_are_caught() {
-    let mut sorts = vec![
-        Wrong::MapTail,
-        Wrong::Guard,
-        Wrong::Number,
-        Wrong::Area,
-        Wrong::Record,
-        Wrong::WritesMapOnRefusal,
-        Wrong::RefusesGood,
-        Wrong::AcceptsBad,
-        Wrong::CheckNumber,
-        Wrong::CheckRecord,
-        Wrong::SecondPass,
-        Wrong::Lookup,
-        Wrong::Adjust,
-        Wrong::RangeStart,
-        Wrong::RangeEnd,
-    ];
-    sorts.extend((0..7).map(Wrong::Count));
-    sorts.extend((0..8).map(Wrong::AreaWord));
-    sorts.extend((0..8).map(Wrong::WritesOnRefusal));
-    sorts.extend((0..5).map(Wrong::MapWord));
-    for wrong in sorts {
-        let difference = first_difference(&Faulty(wrong));
-        assert!(difference.is_some(), "{wrong:?} is not caught");
+fn wrong_libraries_are_caught() {
+    std::thread::scope(|scope| {
+        for half in 0..2 {
+            scope.spawn(move || {
+                for mutant in MUTANTS.iter().skip(half).step_by(2) {
+                    if let Err(why) = mutants::catch(RIGHT, mutant) {
+                        panic!("{}: {why}", mutant.name);
+                    }
+                }
+            });
+        }
+    });
+}
+
+#[test]
+fn wrong_libraries_stand_in_the_readme() {
+    let readme = include_str!("../README.md");
+    for mutant in MUTANTS {
+        let rows = readme.matches(&format!("\n| {} |", mutant.name)).count();
+        assert_eq!(rows, 1, "{}", mutant.name);
     }
 }
 
@@ -208,7 +95,7 @@ fn a_run_ends_with_the_smallest_failing_module() {
         seed: 1,
         threads: 2,
     };
-    let library = Faulty(Wrong::Count(CONSTANTS));
+    let library = MUTANTS[0].over(RIGHT);
     let summary = run::run(&library, &plan);
     let failure = summary.failure.expect("it is caught");
     let text = run::failure_text(&library, &failure);
@@ -216,7 +103,7 @@ fn a_run_ends_with_the_smallest_failing_module() {
         .filter_map(|line| line.strip_prefix("raw "))
         .flat_map(|line| line.split_whitespace().skip(1))
         .collect();
-    // Any module at all gets a wrong count.
+    // Any module at all gets a wrong count of constants.
     assert_eq!(words.len(), 0, "{text}");
     assert_eq!(text.matches("\nraw ").count(), 8);
     assert_eq!(text.matches("\nroom ").count(), 5);

@@ -7,6 +7,7 @@
 use crate::flat::*;
 use std::cell::RefCell;
 use std::rc::Rc;
+use std::sync::OnceLock;
 
 /// How many records of areas 0 to 4, how many mentions, and whether types and expressions name only
 /// older ones.
@@ -33,41 +34,51 @@ struct Alphabet {
 
 /// All shapes with the number of modules of each and of all before it.
 pub struct Small {
-    shapes: Vec<(Shape, u64)>,
-    before: Vec<u64>,
+    shapes: &'static [(Shape, u64)],
+    before: &'static [u64],
     ready: RefCell<Option<(usize, Rc<Alphabet>)>>,
+}
+
+/// The shapes in their order, each with its modules; and how many lie before each.
+type Order = (Vec<(Shape, u64)>, Vec<u64>);
+
+fn order() -> Order {
+    let mut shapes: Vec<(Shape, u64)> = Vec::new();
+    for number in 0..4 * 3 * 3 * 2 * 4 * 3 * 2 {
+        let shape = Shape {
+            counts: [
+                number % 4,
+                number / 4 % 3,
+                number / 12 % 3,
+                number / 36 % 2,
+                number / 72 % 4,
+                number / 288 % 3,
+            ],
+            older: number >= 864,
+        };
+        let total = Alphabet::new(shape).total();
+        let most = if shape.older { MOST_OLDER } else { MOST_ANY };
+        if (1..=most).contains(&total) {
+            shapes.push((shape, total as u64));
+        }
+    }
+    shapes.sort_by_key(|(shape, total)| (*total, *shape));
+    let mut sum = 0;
+    let before = shapes.iter().map(|(_, total)| {
+        sum += total;
+        sum - total
+    });
+    let before = before.collect();
+    (shapes, before)
 }
 
 impl Small {
     pub fn new() -> Self {
-        let mut shapes: Vec<(Shape, u64)> = Vec::new();
-        for number in 0..4 * 3 * 3 * 2 * 4 * 3 * 2 {
-            let shape = Shape {
-                counts: [
-                    number % 4,
-                    number / 4 % 3,
-                    number / 12 % 3,
-                    number / 36 % 2,
-                    number / 72 % 4,
-                    number / 288 % 3,
-                ],
-                older: number >= 864,
-            };
-            let total = Alphabet::new(shape).total();
-            let most = if shape.older { MOST_OLDER } else { MOST_ANY };
-            if (1..=most).contains(&total) {
-                shapes.push((shape, total as u64));
-            }
-        }
-        shapes.sort_by_key(|(shape, total)| (*total, *shape));
-        let mut sum = 0;
-        let before = shapes.iter().map(|(_, total)| {
-            sum += total;
-            sum - total
-        });
+        static ORDER: OnceLock<Order> = OnceLock::new();
+        let (shapes, before) = ORDER.get_or_init(order);
         Small {
-            before: before.collect(),
             shapes,
+            before,
             ready: RefCell::new(None),
         }
     }
