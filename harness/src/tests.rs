@@ -514,7 +514,8 @@ mod beside_flat_modules {
 /// The comparison on shaders passes the right library and catches wrong answers.
 #[cfg(feature = "crate")]
 mod over_shaders {
-    use super::{Faulty, Wrong, RIGHT};
+    use super::RIGHT;
+    use crate::mutants::MUTANTS;
     use crate::shaders::shaders;
     use std::path::PathBuf;
 
@@ -523,14 +524,37 @@ mod over_shaders {
         assert_eq!(shaders(RIGHT, &[]), Ok(true));
     }
 
+    /// Wrong libraries whose fault shows on the shaders.
+    const SHOWN: [&str; 22] = [
+        "counts one constant too many",
+        "counts no components",
+        "names a record though it accepts",
+        "tag of a type whose handles change",
+        "tag of the last expression",
+        "base of a pointer stays",
+        "override of an array stays",
+        "start of a struct's run stays",
+        "type of a Compose stays",
+        "first member stays",
+        "exchanges the last two components",
+        "init of a constant stays",
+        "loses the init of a global",
+        "the first dropped override's place is not freed",
+        "writes past the types",
+        "a dropped type's word in its map is 0",
+        "map of the overrides stays",
+        "a mention of a global stays",
+        "takes Yes for No",
+        "takes No for Yes",
+        "does not follow the init of an override",
+        "adjust of a dropped handle is 8",
+    ];
+
     #[test]
-    fn wrong_answers_are_caught() {
-        let areas = (0..8).map(Wrong::AreaWord);
-        let counts = (0..7).map(Wrong::Count);
-        let maps = (0..5).map(Wrong::MapWord);
-        let others = [Wrong::Guard, Wrong::RefusesGood, Wrong::Adjust];
-        for wrong in areas.chain(counts).chain(maps).chain(others) {
-            assert_eq!(shaders(&Faulty(wrong), &[]), Ok(false), "{wrong:?}");
+    fn wrong_libraries_are_caught() {
+        for name in SHOWN {
+            let mutant = MUTANTS.iter().find(|mutant| mutant.name == name).unwrap();
+            assert_eq!(shaders(&mutant.over(RIGHT), &[]), Ok(false), "{name}");
         }
     }
 
