@@ -28,7 +28,10 @@ pub const TAIL: usize = 1;
 // A pool's record is one handle.
 const POOL_WIDTH: usize = 1;
 
-const POOL_LIMIT: usize = 16384;
+// The most records of each area but the pools.
+const RECORD_LIMIT: usize = 65536;
+
+const POOL_LIMIT: usize = 262144;
 
 // Areas 0 to 7.
 const WIDTHS: [usize; AREAS as usize] = [
@@ -119,7 +122,7 @@ pub struct Type;
 impl Type {
     pub const WIDTH: usize = 5;
 
-    pub const LIMIT: usize = 4096;
+    pub const LIMIT: usize = RECORD_LIMIT;
 
     pub const KIND: usize = 0;
 
@@ -180,7 +183,7 @@ pub struct Constant;
 impl Constant {
     pub const WIDTH: usize = 4;
 
-    pub const LIMIT: usize = 4096;
+    pub const LIMIT: usize = RECORD_LIMIT;
 
     pub const NAMED: usize = 0;
 
@@ -233,7 +236,7 @@ pub struct Override;
 impl Override {
     pub const WIDTH: usize = 4;
 
-    pub const LIMIT: usize = 4096;
+    pub const LIMIT: usize = RECORD_LIMIT;
 
     pub const NAMED: usize = 0;
 
@@ -286,7 +289,7 @@ pub struct Global;
 impl Global {
     pub const WIDTH: usize = 3;
 
-    pub const LIMIT: usize = 4096;
+    pub const LIMIT: usize = RECORD_LIMIT;
 
     pub const TYPE: usize = 0;
 
@@ -331,7 +334,7 @@ pub struct Expression;
 impl Expression {
     pub const WIDTH: usize = 11;
 
-    pub const LIMIT: usize = 4096;
+    pub const LIMIT: usize = RECORD_LIMIT;
 
     pub const KIND: usize = 0;
 
@@ -378,7 +381,7 @@ pub struct Mention;
 impl Mention {
     pub const WIDTH: usize = 2;
 
-    pub const LIMIT: usize = 4096;
+    pub const LIMIT: usize = RECORD_LIMIT;
 
     pub const AREA: usize = 0;
 

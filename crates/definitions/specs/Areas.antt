@@ -89,9 +89,9 @@ allWords s =
 unfoldable pub widths : List ℕ
 widths = eachArena width (1 ∷ 1 ∷ mentionWidth ∷ [])
 
--- "Most records"
+-- "Most records": "areas 0 to 4 and 7 to 65,536 records and both module pools to 262,144 words"
 unfoldable pub limits : List ℕ
-limits = 4096 ∷ 4096 ∷ 4096 ∷ 4096 ∷ 4096 ∷ 16384 ∷ 16384 ∷ 4096 ∷ []
+limits = 65536 ∷ 65536 ∷ 65536 ∷ 65536 ∷ 65536 ∷ 262144 ∷ 262144 ∷ 65536 ∷ []
 
 -- the most records of an arena
 abbrev pub limit : Arena → ℕ
