@@ -9,6 +9,12 @@
 mod output;
 mod text;
 
+use arena::Constant;
+use arena::Expression;
+use arena::Global;
+use arena::Mention;
+use arena::Override;
+use arena::Type;
 use compact::Compacted;
 use compact::KeepUnused;
 use libc::STDIN_FILENO;
@@ -24,6 +30,15 @@ use text::flag;
 use text::length;
 use text::start;
 use text::words;
+
+// How many records there is room for in each area. With the maps, the text and what `compact` holds the buffers are under 64 KiB.
+const ROOM: usize = 64;
+
+// How many words there is room for in each map.
+const MAP_ROOM: usize = 2 * ROOM;
+
+// How many bytes of text.
+const TEXT: usize = 8192;
 
 // What stands before a case's words.
 struct Head {
@@ -146,24 +161,24 @@ fn with_maps(
     components: &mut [u32],
     mentions: &mut [u32],
 ) -> Read {
-    let mut type_map = [7u32; 128];
-    let t = length(text, before, 128);
+    let mut type_map = [7u32; MAP_ROOM];
+    let t = length(text, before, MAP_ROOM);
     let t_words = t.words;
     let type_map = &mut type_map[0..t_words];
-    let mut constant_map = [7u32; 128];
-    let c = length(text, t, 128);
+    let mut constant_map = [7u32; MAP_ROOM];
+    let c = length(text, t, MAP_ROOM);
     let c_words = c.words;
     let constant_map = &mut constant_map[0..c_words];
-    let mut override_map = [7u32; 128];
-    let o = length(text, c, 128);
+    let mut override_map = [7u32; MAP_ROOM];
+    let o = length(text, c, MAP_ROOM);
     let o_words = o.words;
     let override_map = &mut override_map[0..o_words];
-    let mut global_map = [7u32; 128];
-    let g = length(text, o, 128);
+    let mut global_map = [7u32; MAP_ROOM];
+    let g = length(text, o, MAP_ROOM);
     let g_words = g.words;
     let global_map = &mut global_map[0..g_words];
-    let mut expression_map = [7u32; 128];
-    let e = length(text, g, 128);
+    let mut expression_map = [7u32; MAP_ROOM];
+    let e = length(text, g, MAP_ROOM);
     let e_words = e.words;
     let expression_map = &mut expression_map[0..e_words];
     let state = e.state;
@@ -197,19 +212,19 @@ fn with_expressions(
     overrides: &mut [u32],
     globals: &mut [u32],
 ) -> Read {
-    let mut expressions = [0u32; 704];
+    let mut expressions = [0u32; ROOM * Expression::WIDTH];
     let e = words(text, before, &mut expressions);
     let e_words = e.words;
     let expressions = &mut expressions[0..e_words];
-    let mut members = [0u32; 64];
+    let mut members = [0u32; ROOM];
     let m = words(text, e, &mut members);
     let m_words = m.words;
     let members = &mut members[0..m_words];
-    let mut components = [0u32; 64];
+    let mut components = [0u32; ROOM];
     let c = words(text, m, &mut components);
     let c_words = c.words;
     let components = &mut components[0..c_words];
-    let mut mentions = [0u32; 8194];
+    let mut mentions = [0u32; ROOM * Mention::WIDTH];
     let n = words(text, c, &mut mentions);
     let n_words = n.words;
     let mentions = &mut mentions[0..n_words];
@@ -230,19 +245,19 @@ fn with_expressions(
 
 // Reads areas 0 to 3, and goes on with the other areas.
 fn run_case(text: &[u8], head: Head, before: Read) -> Read {
-    let mut types = [0u32; 320];
+    let mut types = [0u32; ROOM * Type::WIDTH];
     let t = words(text, before, &mut types);
     let t_words = t.words;
     let types = &mut types[0..t_words];
-    let mut constants = [0u32; 256];
+    let mut constants = [0u32; ROOM * Constant::WIDTH];
     let c = words(text, t, &mut constants);
     let c_words = c.words;
     let constants = &mut constants[0..c_words];
-    let mut overrides = [0u32; 256];
+    let mut overrides = [0u32; ROOM * Override::WIDTH];
     let o = words(text, c, &mut overrides);
     let o_words = o.words;
     let overrides = &mut overrides[0..o_words];
-    let mut globals = [0u32; 192];
+    let mut globals = [0u32; ROOM * Global::WIDTH];
     let g = words(text, o, &mut globals);
     let g_words = g.words;
     let globals = &mut globals[0..g_words];
@@ -290,9 +305,9 @@ fn run_all(text: &[u8]) {
 }
 
 fn main() {
-    let mut text = [0u8; 8192];
+    let mut text = [0u8; TEXT];
     let n = io::read_full(STDIN_FILENO, &mut text);
-    if n == 8192 {
+    if n == TEXT {
         complain_at_start(State::Unfit);
         return;
     }

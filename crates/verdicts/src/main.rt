@@ -3,7 +3,7 @@
 // A line is a label and then the areas that have words, in order, each behind its letter: t types,
 // c constants, o overrides, g globals, e expressions, m members, k components, q mentions. N is a word.
 // * with a number stands for so many words more that repeat the word before them, + for so many that
-// repeat the record before them. Behind r stand the lengths of the five maps, 4096 each without it. A
+// repeat the record before them. Behind r stand the lengths of the five maps, 64 each without it. A
 // line that starts with # is passed over.
 ghost use Prim.Native.Nat.{_≤_};
 ghost use lib.ListN.{length};
@@ -14,6 +14,9 @@ use libc::STDOUT_FILENO;
 
 // The most words that a module of the input has. With the maps and the text the buffers are under 64 KiB.
 const WORDS: usize = 8200;
+
+// The most words of a map.
+const MAP_ROOM: usize = 64;
 
 // The letters of the areas, and of the maps.
 const LETTERS: [u8; 9] = [b't', b'c', b'o', b'g', b'e', b'm', b'k', b'q', b'r'];
@@ -156,8 +159,8 @@ fn put(line: &[u8], area: usize, words: &mut [u32], from: usize) -> usize {
 // The verdict on the module of a line: its areas lie one after another.
 fn judged(line: &[u8]) -> faults::Verdict {
     let mut words = [0u32; WORDS];
-    let maps = [0u32; 4096];
-    let mut rooms = [4096u32; 5];
+    let maps = [0u32; MAP_ROOM];
+    let mut rooms = [MAP_ROOM as u32; 5];
     put(line, 8, &mut rooms, 0);
     let t = put(line, 0, &mut words, 0);
     let c = put(line, 1, &mut words, t);
