@@ -78,7 +78,7 @@ pub areas-all : (nr : ℕ) (ok : ℕ → Bool) (n : ℕ) → T (passes (scanArea
 unfolding scanAreas passes
 areas-all nr ok n = scan-all ok (λ a. refused nr a 0) (λ i t. t) n
 
-all-areas : (nr : ℕ) (ok : ℕ → Bool) (n : ℕ) → ((i : ℕ) → i < n → T (ok i)) → T (passes (scanAreas nr ok n))
+pub all-areas : (nr : ℕ) (ok : ℕ → Bool) (n : ℕ) → ((i : ℕ) → i < n → T (ok i)) → T (passes (scanAreas nr ok n))
 unfolding scanAreas
 all-areas nr ok n = all-scan ok (λ a. refused nr a 0) n
 

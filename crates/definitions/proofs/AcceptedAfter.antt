@@ -20,7 +20,7 @@ use Rattle.definitions.specs.Sweep.{has}
 use Rattle.definitions.specs.Refusals.{every, held, heldAt, inside as test, ofModule, runsBefore, shaped, shapedAt}
 use Rattle.definitions.specs.Numbering.{isKept, moved, newHandle, rank}
 use Rattle.definitions.specs.Records.{adjusted, keptAreas, mentionAfter, mentionsUpTo, runsUpTo, startAfter}
-use Rattle.definitions.proofs.ListLaws.{total-share, length-gather, gather-word, total-cong, total-scale, total-any}
+use Rattle.definitions.proofs.ListLaws.{total-always, total-share, length-gather, gather-word, total-cong, total-scale, total-any}
 use Rattle.definitions.proofs.Least.{_∈_, and-left, and-right, both, Within, within-each, map-within, Closed, here, there, append-left, append-right, reached, reached-within}
 use Rattle.definitions.proofs.Accepted.{Sound, Accepted}
 use Rattle.definitions.proofs.Kept.{OrderedOn, SlotHolds, EachSlot, all-within, sized-past, Inside, inside-lt}
@@ -56,7 +56,7 @@ held-run s a (x ∷ ws) w =
     (held-run s a ws (λ y i. w y (there y (at a x) (map (at a) ws) i)))
 
 -- check 6 asks that every reference lies inside
-refs-held : (s : Areas) (a : Arena) (h : ℕ) → Within (references s (at a h)) (Inside s) → T (heldAt s a h)
+pub refs-held : (s : Areas) (a : Arena) (h : ℕ) → Within (references s (at a h)) (Inside s) → T (heldAt s a h)
 unfolding heldAt references
 refs-held s a h w =
     both (every (held s) (word s a h) 0 (layout s a h)) (all (λ w. test s (at a w)) (run s a h))
@@ -294,9 +294,8 @@ module _ (s : Areas) (m : List Elem) (c : Sound s) (inside : Within m (Inside s)
   -- ---- checks 1 and 2, and the mentions
 
   mentions-total : (n : ℕ) → total always (λ i. length (mentionAfter s m i)) n ≡ n * mentionWidth
-  unfolding total mentionAfter
-  mentions-total zero = refl
-  mentions-total (suc n) = rw (mentions-total n) (omega arith)
+  unfolding mentionAfter
+  mentions-total n = total-always mentionWidth n
 
   pub mentions-length : length (after s m .mentions) ≡ mentionCount s * mentionWidth
   unfolding keptAreas mentionsUpTo

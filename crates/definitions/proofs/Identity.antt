@@ -4,8 +4,7 @@ use mathlib.Core.Path.{_≡_, refl, sym, ap, ap₂, subst, _∙_}
 use mathlib.Core.Bool.{Bool, true, false, cond}
 use mathlib.Core.List.{List, [], _∷_, _++_, map, append-nil}
 use Prim.Native.Nat.{ℕ, zero, suc, _+_, _*_, _/_, _%_, _-_, _≤_, _<_}
-use native.Mathlib.Nat.{le-refl, le-trans, mod-lt, div-add-mod', div-lt-iff-lt-mul, add-zero, zero-add}
-use native.Mathlib.Numerals.{add-one}
+use native.Mathlib.Nat.{mul-one, le-refl, le-trans, mod-lt, div-add-mod', div-lt-iff-lt-mul, add-zero, zero-add}
 use native.Mathlib.Omega.{arith}
 use lib.Dec.{T, eqb, leb, eqb→eq, lit<}
 use lib.ListN.{length, getD, take}
@@ -21,7 +20,7 @@ use Rattle.definitions.specs.Refusals.{every, held, heldAt, check, insid
 use Rattle.definitions.specs.Numbering.{isKept, moved, newHandle, rank}
 use Rattle.definitions.specs.Outcome.{Maps, lengths, outcome, outcomeOf}
 use Rattle.definitions.specs.Records.{adjusted, areasAfter, keptAreas, padded, mentionAfter, runsUpTo, startAfter}
-use Rattle.definitions.proofs.ListLaws.{total-step}
+use Rattle.definitions.proofs.ListLaws.{total-always, total-step}
 use Rattle.definitions.proofs.Least.{_∈_, and-left, and-right, Within, Closed}
 use Rattle.definitions.proofs.Accepted.{Sound}
 use Rattle.definitions.proofs.Kept.{Inside, inside-lt, lt-inside, inside-closed, OrderedOn, from-inside}
@@ -58,14 +57,9 @@ module _ (s : Areas) (m : List Elem) (c : Sound s) (ins : Within m (Inside s)) (
   total-all a g zero l = refl
   total-all a g (suc h) l = total-step (isKept m a) g h (keeps a h l) ∙ ap (λ n. n + g h) (total-all a g h (le-trans (omega arith) l))
 
-  total-ones : (h : ℕ) → total always (λ _. 1) h ≡ h
-  unfolding total
-  total-ones zero = refl
-  total-ones (suc h) = ap (λ n. n + 1) (total-ones h) ∙ add-one h
-
   rank-all : (a : Arena) (h : ℕ) → h ≤ size s a → rank (isKept m a) h ≡ h
   unfolding rank
-  rank-all a h l = total-all a (λ _. 1) h l ∙ total-ones h
+  rank-all a h l = total-all a (λ _. 1) h l ∙ total-always 1 h ∙ mul-one h
 
   new-all : (a : Arena) (h : ℕ) → h < size s a → newHandle (isKept m a) h ≡ h
   new-all a h l = new-kept m a h (keeps a h l) ∙ rank-all a h (le-trans (omega arith) l)

@@ -1,6 +1,7 @@
 -- The laws of the definitions. What they promise in words: docs/REVIEW.md.
 pub mod Computed
 pub mod Worked
+pub mod Case8
 pub mod Demand3
 pub mod Exactly
 pub mod Counts

@@ -75,6 +75,12 @@ total-scale p w (suc n) = go (p n) (total-scale p w n)
     go true e = omega arith
     go false e = e
 
+-- where every number passes, each has its share
+pub total-always : (w n : ℕ) → total always (λ _. w) n ≡ n * w
+unfolding total
+total-always w zero = omega arith
+total-always w (suc n) = rw (total-always w n) (omega arith)
+
 pub gather-step : (p : ℕ → Bool) (f : ℕ → List ℕ) (h : ℕ) → p h ≡ true → gather p f (suc h) ≡ gather p f h ++ f h
 unfolding gather
 gather-step p f h e = rw e
