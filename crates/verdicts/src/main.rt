@@ -3,7 +3,7 @@
 // A line is a label and then the areas that have words, in order, each behind its letter: t types,
 // c constants, o overrides, g globals, e expressions, m members, k components, q mentions. N is a word.
 // * with a number stands for so many words more that repeat the word before them, + for so many that
-// repeat the record before them. Behind r stand the lengths of the five maps, 64 each without it. A
+// repeat the record before them. Behind r stand the lengths of the five maps, MAP_ROOM each without it. A
 // line that starts with # is passed over.
 ghost use Prim.Native.Nat.{_≤_};
 ghost use lib.ListN.{length};
