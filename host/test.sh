@@ -5,12 +5,14 @@ cd "$(dirname "$0")/.."
 . ./machine.sh
 out=host/target/c
 mkdir -p "$out"
-for source in host/examples/case1.c host/tests/header.c; do
-    "$cc" -Wall -Wextra -Werror -std=c99 -Iinclude "$source" target/staticlib/libcadnohal.a -o "$out/$(basename "$source" .c)"
+for source in host/examples/case1.c host/tests/header.c host/tests/limits.c; do
+    # -z now: what is linked at the first call would take stack of its own.
+    "$cc" -O1 -Wl,-z,now -Wall -Wextra -Werror -std=c99 -Iinclude "$source" target/staticlib/libcadnohal.a -o "$out/$(basename "$source" .c)"
 done
 line=$($start "$out/case1")
 [ "$line" = '1 0 0 0 2 0 1 0 1 0 0' ] || { echo "case1 printed '$line'"; exit 1; }
 $start "$out/header"
+$start "$out/limits"
 if command -v c++ >/dev/null; then
     c++ -Wall -Wextra -Werror -std=c++11 -fsyntax-only -x c++ include/cadnohal.h
 fi

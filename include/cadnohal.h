@@ -1,7 +1,7 @@
 /* Cadnohal: compacts a flat shader module in place, or refuses it with a number and a place and changes nothing.
  *
  * Link libcadnohal.a (`rt staticlib cadnohal` writes it to target/staticlib). It needs memset and nothing else, takes no
- * memory, keeps no state, and holds less than 64 KiB of stack.
+ * memory, keeps no state, and holds less than 64 KiB of stack: 45.5 KiB as measured, CADNOHAL_STACK with some to spare.
  *
  * Every function takes any words: it checks everything itself, and for each content of the slices its answer and every
  * word afterwards are fixed, refused input too. That is proved of the library's code.
@@ -14,16 +14,17 @@
  *
  * The areas, in this order. A record is so many words; a handle is a record's place in its area, from 0.
  *
- *   0 types        kind, flags, a, b, tag                 at most  4096 records
- *   1 constants    named, type, init, tag                          4096
- *   2 overrides    named, type, init or N, tag                     4096
- *   3 globals      type, init or N, tag                            4096
- *   4 expressions  kind, nine slots, tag                           4096
- *   5 members      one type handle                                16384
- *   6 components   one expression handle                          16384
- *   7 mentions     area 0 to 4, handle                             4096
+ *   0 types        kind, flags, a, b, tag                 at most  65536 records
+ *   1 constants    named, type, init, tag                          65536
+ *   2 overrides    named, type, init or N, tag                     65536
+ *   3 globals      type, init or N, tag                            65536
+ *   4 expressions  kind, nine slots, tag                           65536
+ *   5 members      one type handle                                262144
+ *   6 components   one expression handle                          262144
+ *   7 mentions     area 0 to 4, handle                             65536
  *
- * Each of areas 0 to 4 has a map of at least as many words as it has records.
+ * Each of areas 0 to 4 has a map of at least as many words as it has records. With every area at its limit the thirteen
+ * slices are 10.5 MiB.
  *
  * The mentions are what functions, entry points and special types name; each is a root, whatever the flag. The Rust
  * with KeepUnused::No traces only the entry points and the functions that calls reach from them, with Yes every
@@ -66,6 +67,10 @@ extern "C" {
 /* The CADNOHAL_ABI that the archive was built with. Header and archive belong together where the two are equal: ask
  * once, before the first call of any other function, whose arguments are read wrongly where they are not. */
 uint32_t cadnohal_abi(void);
+
+/* Bytes of stack that are enough for any call, the arguments on it included. Measured at the limits, of the x86-64
+ * archive: 46,600 for cadnohal_compact, 1,300 for cadnohal_check, fewer for the others. */
+#define CADNOHAL_STACK 49152
 
 /* "No handle". */
 #define CADNOHAL_N 4294967295u

@@ -125,7 +125,7 @@ static void accepted(void)
 
 static void refusals(void)
 {
-    static uint32_t many[4097 * 2];
+    static uint32_t many[65537 * 2];
     module m = GOOD;
     lengths n = WHOLE;
     n.types = 14;
