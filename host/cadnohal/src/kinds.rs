@@ -79,8 +79,8 @@ impl Area {
     /// How many records the area may have.
     pub const fn limit(self) -> usize {
         match self {
-            Self::Members | Self::Components => 16_384,
-            _ => 4_096,
+            Self::Members | Self::Components => 262_144,
+            _ => 65_536,
         }
     }
 

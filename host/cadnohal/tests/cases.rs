@@ -260,18 +260,18 @@ fn leaves(count: u32) -> Module {
 
 #[test]
 fn case_8_as_many_types_as_there_may_be() {
-    let mut after = leaves(4096);
+    let mut after = leaves(65_536);
     let (counts, maps) = compact(&mut after, KeepUnused::Yes);
-    assert_eq!(counts, [4096, 0, 0, 0, 0, 0, 0]);
-    assert_eq!(maps.types.words(), [(0..4096).collect(), vec![7]].concat());
-    assert_eq!(after, leaves(4096));
+    assert_eq!(counts, [65_536, 0, 0, 0, 0, 0, 0]);
+    assert!(maps.types.words() == [(0..65_536).collect(), vec![7]].concat());
+    assert!(after == leaves(65_536));
 
     let (counts, maps) = compact(&mut after, KeepUnused::No);
     assert_eq!(counts, [0; 7]);
-    assert_eq!(maps.types.words(), common::words("4096*N 7"));
-    assert_eq!(after, module(["20480*N", "", "", "", "", "", "", ""]));
+    assert!(maps.types.words() == common::words("65536*N 7"));
+    assert!(after == module(["327680*N", "", "", "", "", "", "", ""]));
 
-    assert_eq!(place(&leaves(4097)), [2, 0, 0]);
+    assert_eq!(place(&leaves(65_537)), [2, 0, 0]);
 }
 
 /// A `Literal` and the expression under test.

@@ -274,18 +274,3 @@ fn a_result_that_is_not_cut_is_refused() {
     let maps = Maps::for_module(&globals);
     assert_eq!(place_with(&globals, &maps), [6, 3, 0]);
 }
-
-/// The header's promise of the stack, at the limits of every arena.
-#[test]
-fn a_full_module_fits_on_a_small_stack() {
-    let mut full = module(["", "", "", "", "", "", "", ""]);
-    full.types = words("0 0 N N 1").repeat(4096);
-    full.constants = words("1 0 0 2").repeat(4096);
-    full.overrides = words("0 0 N 3").repeat(4096);
-    full.globals = words("0 N 4").repeat(4096);
-    full.expressions = words("0 9*N 5").repeat(4096);
-    let small = std::thread::Builder::new().stack_size(64 * 1024);
-    let pass = small.spawn(move || full.compact(KeepUnused::No).map(|c| c.counts.to_array()));
-    let kept = pass.unwrap().join().unwrap();
-    assert_eq!(kept, Ok([1, 4096, 0, 0, 1, 0, 0]));
-}

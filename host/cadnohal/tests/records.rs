@@ -572,17 +572,28 @@ fn kinds_are_found_by_their_words() {
 fn areas_are_those_of_document_01() {
     let facts = Area::ALL.map(|area| (area.code(), area.name(), area.width(), area.limit()));
     let expected = [
-        (0, "types", 5, 4096),
-        (1, "constants", 4, 4096),
-        (2, "overrides", 4, 4096),
-        (3, "globals", 3, 4096),
-        (4, "expressions", 11, 4096),
-        (5, "members", 1, 16384),
-        (6, "components", 1, 16384),
-        (7, "mentions", 2, 4096),
+        (0, "types", 5, 65_536),
+        (1, "constants", 4, 65_536),
+        (2, "overrides", 4, 65_536),
+        (3, "globals", 3, 65_536),
+        (4, "expressions", 11, 65_536),
+        (5, "members", 1, 262_144),
+        (6, "components", 1, 262_144),
+        (7, "mentions", 2, 65_536),
     ];
     assert_eq!(facts, expected);
     assert_eq!(Area::from_code(7), Some(Area::Mentions));
     assert_eq!(Area::from_code(8), None);
     assert_eq!(N, 4_294_967_295);
+}
+
+#[test]
+fn the_header_has_the_same_limits() {
+    let header = include_str!("../../../include/cadnohal.h");
+    for area in Area::ALL {
+        let begins = format!(" *   {} {area} ", area.code());
+        let line = header.lines().find(|line| line.starts_with(&begins));
+        let said = line.expect("a line").trim_end_matches(" records");
+        assert_eq!(said.rsplit(' ').next(), Some(&*area.limit().to_string()));
+    }
 }

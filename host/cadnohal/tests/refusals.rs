@@ -1,4 +1,5 @@
-//! Each refusal at each place that it can fall on. `place` sees to it that no word changes.
+//! Each refusal at each place that it can fall on; number 2 is in limits.rs. `place` sees to it that
+//! no word changes.
 
 mod common;
 
@@ -71,65 +72,6 @@ fn number_1_at_the_first_area() {
         module.area_mut(area).push(0);
         assert_eq!(place(&module), [1, area.code(), 0]);
     }
-}
-
-#[test]
-fn number_2_at_each_area() {
-    let limits = [4096, 4096, 4096, 4096, 4096, 16384, 16384, 4096];
-    for (area, limit) in Area::ALL.into_iter().zip(limits) {
-        let mut module = good();
-        let length = (limit + 1) * area.width();
-        module.area_mut(area).resize(length, 0);
-        assert_eq!(place(&module), [2, area.code(), 0]);
-        // The next number would be tried with as many records as there may be.
-        module.area_mut(area).truncate(limit * area.width());
-        assert_ne!(place(&module)[0], 2);
-    }
-}
-
-#[test]
-fn number_2_at_the_first_area() {
-    let mut module = Module::new();
-    for (code, length) in [(7, 8194), (6, 16385), (4, 45067), (1, 16388)] {
-        let area = Area::from_code(code).expect("an area");
-        module.area_mut(area).resize(length, 0);
-        assert_eq!(place(&module), [2, code, 0]);
-    }
-}
-
-#[test]
-fn as_many_records_as_there_may_be_pass() {
-    let leaf = repeated(Area::Types, "0 0 N N 0", 1);
-    let with_leaf = |module: Module| Module {
-        types: leaf.types.clone(),
-        ..module
-    };
-    assert_eq!(place(&repeated(Area::Types, "0 0 N N 0", 4096)), [0, 0, 0]);
-    let mut constants = with_leaf(repeated(Area::Constants, "1 0 0 0", 4096));
-    constants.expressions = words("0 9*N 0");
-    assert_eq!(place(&constants), [0, 0, 0]);
-    assert_eq!(
-        place(&with_leaf(repeated(Area::Overrides, "1 0 N 0", 4096))),
-        [0, 0, 0]
-    );
-    assert_eq!(
-        place(&with_leaf(repeated(Area::Globals, "0 N 0", 4096))),
-        [0, 0, 0]
-    );
-    assert_eq!(
-        place(&repeated(Area::Expressions, "0 9*N 0", 4096)),
-        [0, 0, 0]
-    );
-    let mut members = repeated(Area::Members, "0", 16384);
-    members.types = words("0 0 N N 0  3 1 0 16384 0");
-    assert_eq!(place(&members), [0, 0, 0]);
-    let mut components = with_leaf(repeated(Area::Components, "0", 16384));
-    components.expressions = words("0 9*N 0  8 0 0 16384 6*N 0");
-    assert_eq!(place(&components), [0, 0, 0]);
-    assert_eq!(
-        place(&with_leaf(repeated(Area::Mentions, "0 0", 4096))),
-        [0, 0, 0]
-    );
 }
 
 /// The good module's maps, the one of `arena` with so many words.
@@ -524,7 +466,7 @@ fn numbers_are_tried_in_turn() {
     let mut module = good();
     let mut maps = long_maps(&module);
     module.globals.push(0); // 1
-    module.mentions.extend([0; 8192]); // 2
+    module.mentions.resize(2 * (Area::Mentions.limit() + 1), 0); // 2
     maps.overrides = HandleMap::from_words(vec![7]); // 3
     module.mentions[0] = 5; // 4
     module.expressions.extend(words("13 9*N 0")); // 5
@@ -582,8 +524,8 @@ fn refusals_without_a_record_tell_the_lengths() {
         "refusal 1 at globals: the area's length isn't a multiple of its record width (length 2, width 3)"
     );
     assert_eq!(
-        text(&repeated(Area::Mentions, "0 0", 4097)),
-        "refusal 2 at mentions: the area has more records than its limit (record count 4097, limit 4096)"
+        text(&repeated(Area::Mentions, "0 0", 65_537)),
+        "refusal 2 at mentions: the area has more records than its limit (record count 65537, limit 65536)"
     );
     assert_eq!(
         text_with(&good(), &maps_with(4, 2)),

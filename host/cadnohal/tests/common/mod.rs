@@ -61,13 +61,15 @@ pub fn maps_of([types, constants, overrides, globals, expressions]: [Vec<u32>; 5
 /// What the check and both passes refuse `module` with, having seen that no word changed; `None` if
 /// they accept it.
 pub fn refusal_with(module: &Module, maps: &Maps) -> Option<Refusal> {
+    let before = (module.clone(), maps.clone());
     let refusal = module.check_with(maps).err();
+    assert!((&before.0, &before.1) == (module, maps), "changed");
     for keep_unused in [KeepUnused::No, KeepUnused::Yes] {
-        let (mut module_after, mut maps_after) = (module.clone(), maps.clone());
+        let (mut module_after, mut maps_after) = before.clone();
         let answer = module_after.compact_into(keep_unused, &mut maps_after);
         assert_eq!(answer.err(), refusal);
         if refusal.is_some() {
-            assert!((&module_after, &maps_after) == (module, maps), "changed");
+            assert!((module_after, maps_after) == before, "changed");
         }
     }
     refusal
