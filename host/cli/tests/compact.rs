@@ -3,8 +3,9 @@
 
 mod common;
 
+use cadnohal::{Area, Module, N};
 use cadnohal_cli::format::{read, write};
-use common::{emulator, run, Done, Good};
+use common::{run, Done, Good};
 use std::time::{Duration, Instant};
 
 fn done(out: &str) -> Done {
@@ -141,95 +142,135 @@ fn what_is_written_is_read_back_and_stays() {
     }
 }
 
+/// How many records an arena may have.
+const MOST: usize = Area::Types.limit();
+
 /// As many records as fit, each area full and each pool full.
-fn full() -> String {
-    let mut text = String::new();
-    let run = |first: usize, records: usize| -> String {
-        let handles: Vec<String> = (0..records)
-            .map(|k| ((first * 7 + k * 13) % first).to_string())
-            .collect();
-        handles.join(",")
-    };
-    for handle in 0..4096 {
-        let count = if handle == 0 {
-            0
-        } else {
-            4 + usize::from(handle <= 4)
+fn full() -> Module {
+    let mut module = Module::new();
+    for handle in 0..MOST as u32 {
+        let count = match handle {
+            0 => 0,
+            1..=4 => 5,
+            _ => 4,
         };
-        let members = if handle == 0 {
-            String::new()
-        } else {
-            run(handle, count)
-        };
-        text += &format!("type named members={members} tag={handle}\n");
-        text += &format!("expression Compose type={handle} components={members}\n");
+        let run = (0..count).map(|k| (handle * 7 + k * 13) % handle);
+        let (members, components) = (module.members.len(), module.components.len());
+        module.types.extend([3, 1, members as u32, count, handle]);
+        module.constants.extend([1, handle, handle, 0]);
+        module.overrides.extend([1, handle, handle, 0]);
+        module.globals.extend([handle, handle, 0]);
+        let compose = [8, handle, components as u32, count, N, N, N, N, N, N, 0];
+        module.expressions.extend(compose);
+        module.members.extend(run.clone());
+        module.components.extend(run);
+        module.mentions.extend([4, handle]);
     }
-    for handle in 0..4096 {
-        text += &format!("constant named type={handle} init={handle}\n");
-        text += &format!("override named type={handle} init={handle}\n");
-        text += &format!("global type={handle} init={handle}\n");
-        text += &format!("mention expression={handle}\n");
+    for area in Area::ALL {
+        assert_eq!(module.count(area), area.limit(), "{area}");
     }
-    text
+    module
 }
 
-/// Far more than it takes, far less than a walk over all pairs would; six times as much under an emulator.
-fn in_time() -> Duration {
-    Duration::from_secs(if emulator().is_some() { 30 } else { 5 })
+/// Far more than it takes, under an emulator or without optimisation, and less than a walk over all
+/// pairs would: three seconds, and two for each megabyte of text.
+fn in_time(text: &str) -> Duration {
+    Duration::from_secs_f64(3.0 + 2e-6 * text.len() as f64)
+}
+
+/// What a command writes about a text that it accepts, in time.
+fn written(command: &[&str], text: &str) -> String {
+    let start = Instant::now();
+    let Done { status, out, err } = run(command, text);
+    let took = start.elapsed();
+    assert_eq!((status, err.as_str()), (0, ""), "{command:?}");
+    assert!(took < in_time(text), "{command:?} {took:?}");
+    println!("{command:?} {took:?}");
+    out
 }
 
 #[test]
 fn a_full_module_in_time() {
-    let text = full();
-    let module = read(text.as_bytes()).expect("it can be read").module;
-    assert_eq!(
-        (module.members.len(), module.components.len()),
-        (16_384, 16_384)
-    );
-    let commands: [&[&str]; 5] = [
-        &["check", "-"],
-        &["compact", "-"],
-        &["compact", "--keep-unused", "--maps", "-"],
-        &["why", "--keep-unused", "-", "type:0"],
-        &["graph", "-"],
-    ];
-    for command in commands {
-        let start = Instant::now();
-        let Done { status, out, err } = run(command, &text);
-        let took = start.elapsed();
-        assert_eq!((status, err.as_str()), (0, ""), "{command:?}");
-        assert!(!out.is_empty() && took < in_time(), "{command:?} {took:?}");
-        println!("{command:?} {took:?}");
-    }
+    let text = write(&full());
     // Everything is kept; without --keep-unused nothing needs the overrides and the globals.
-    let yes = run(&["compact", "--keep-unused", "-"], &text).out;
-    assert!(yes == write(&module));
-    let mut rest = module;
-    rest.overrides.clear();
-    rest.globals.clear();
-    assert!(run(&["compact", "-"], &text).out == write(&rest));
+    let yes = written(&["compact", "--keep-unused", "--maps", "-"], &text);
+    let (kept, maps) = yes.split_at(yes.find("\n# map ").expect("maps"));
+    assert!(kept == text);
+    let numbers = (0..MOST).map(|handle| format!(" {handle}"));
+    let numbers = numbers.collect::<String>();
+    let names = ["types", "constants", "overrides", "globals", "expressions"];
+    let expected = names.map(|name| format!("# map {name}{numbers}\n"));
+    assert!(maps == format!("\n{}", expected.concat()));
+    let areas: Vec<&str> = text.split("\n\n").collect();
+    let [types, constants, _, _, expressions, mentions] = areas[..] else {
+        panic!("{} areas are written", areas.len());
+    };
+    let rest = [types, constants, expressions, mentions].join("\n\n");
+    assert!(written(&["compact", "-"], &text) == rest);
+}
+
+/// The other commands over the same text; with --nocapture it tells their times.
+#[test]
+#[ignore = "half a minute under an emulator, and the chain below asks the same of fewer records"]
+fn a_full_module_in_time_by_every_command() {
+    let text = write(&full());
+    assert_eq!(written(&["check", "-"], &text), "accepted\n");
+    let why = written(&["why", "--keep-unused", "-", "type:0"], &text);
+    assert_eq!(why.lines().next(), Some("type:0 is kept:"));
+    let graph = written(&["graph", "-"], &text);
+    // A line for each element and for each reference, three before and one after them.
+    let references = 7 * MOST + 2 * Area::Members.limit();
+    assert_eq!(graph.lines().count(), 5 * MOST + references + 4);
+}
+
+#[test]
+fn a_chain_through_a_full_arena_in_time() {
+    let mut text = String::from("expression Literal\n");
+    for handle in 1..MOST {
+        text += &format!("expression Unary expr={}\n", handle - 1);
+    }
+    text += &format!("mention expression={}\n", MOST - 1);
+    assert_eq!(written(&["check", "-"], &text), "accepted\n");
+    let why = written(&["why", "-", "expression:0"], &text);
+    assert_eq!(why.lines().count(), MOST + 1);
+    assert!(why.ends_with("\n  expression:1 (Unary) refers to expression:0 by expr\n"));
+    let graph = written(&["graph", "-"], &text);
+    assert_eq!(graph.lines().count(), MOST + (MOST - 1) + 4);
+}
+
+#[test]
+fn runs_as_long_as_their_pools_in_time() {
+    let handles = vec!["0"; Area::Members.limit()].join(",");
+    let text = format!(
+        "type leaf\ntype members={handles}\nexpression Literal\nexpression Compose type=1 components={handles}\n\
+         mention expression=1\n"
+    );
+    let module = read(text.as_bytes()).expect("it can be read").module;
+    assert!(written(&["compact", "-"], &text) == write(&module));
 }
 
 #[test]
 fn a_full_module_where_little_is_kept() {
-    let text = "type leaf\n".repeat(4095) + "type leaf named tag=5\nmention type=4095\n";
+    let last = MOST - 1;
+    let text = "type leaf\n".repeat(last) + "type leaf named tag=5\n";
+    let text = text + &format!("mention type={last}\n");
     let kept = "type leaf named tag=5  # type 0\n\nmention type=0  # mention 0\n";
     assert_eq!(run(&["compact", "-"], &text), done(kept));
 }
 
 #[test]
 fn a_text_far_beyond_the_limits_is_refused_in_time() {
-    let text = full().repeat(10);
+    let text = "type leaf\n".repeat(10 * MOST);
     let start = Instant::now();
     let Done { status, out, err } = run(&["compact", "-"], &text);
     assert_eq!((status, out.as_str()), (1, ""));
     assert!(err.starts_with("<stdin>: refusal 2 at types: "), "{err}");
-    assert!(start.elapsed() < 2 * in_time());
+    assert!(start.elapsed() < in_time(&text));
 }
 
 #[test]
 fn case_8() {
-    let full = "type leaf\n".repeat(4096);
+    let full = "type leaf\n".repeat(65_536);
     assert_eq!(run(&["check", "-"], &full), done("accepted\n"));
     let Done { status, out, err } = run(&["check", "-"], &format!("{full}type leaf"));
     assert_eq!((status, out.as_str()), (1, ""));

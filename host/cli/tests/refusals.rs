@@ -3,6 +3,7 @@
 
 mod common;
 
+use cadnohal::Area;
 use cadnohal_cli::format::read;
 use common::{run, Done};
 
@@ -67,22 +68,26 @@ fn number_1() {
     }
 }
 
+/// One record of zeros more than `area` may have.
+fn past_the_limit(area: Area) -> String {
+    let words = (area.limit() + 1) * area.width();
+    format!("raw {area}{}\n", " 0".repeat(words))
+}
+
 #[test]
 fn number_2() {
-    let lines = [
-        ("types", "type leaf\n", 4096),
-        ("constants", "constant type=0 init=0\n", 4096),
-        ("overrides", "override type=0\n", 4096),
-        ("globals", "global type=0\n", 4096),
-        ("expressions", "expression Literal\n", 4096),
-        ("members", "raw members 0\n", 16_384),
-        ("components", "raw components 0\n", 16_384),
-        ("mentions", "mention type=0\n", 4096),
-    ];
-    for (area, line, limit) in lines {
-        let text = line.repeat(limit + 1);
-        refused(&text, &format!("<stdin>: refusal 2 at {area}: "));
+    for area in Area::ALL {
+        let Done { status, out, err } = run(&["compact", "-"], &past_the_limit(area));
+        assert_eq!((status, out.as_str()), (1, ""), "{area} {err}");
+        let begins = format!("<stdin>: refusal 2 at {area}: ");
+        assert!(err.starts_with(&begins), "{err}");
     }
+    let text = past_the_limit(Area::Mentions);
+    refused(&text, "<stdin>: refusal 2 at mentions: ");
+    // Number 1 comes first, though its area comes later.
+    let text = past_the_limit(Area::Globals) + "raw mentions 0\n";
+    let err = run(&["check", "-"], &text).err;
+    assert!(err.starts_with("<stdin>: refusal 1 at mentions: "), "{err}");
 }
 
 #[test]

@@ -18,7 +18,7 @@ pub struct Done {
 }
 
 /// What starts the program where the machine can't by itself: `machine.sh` names an emulator on Arm.
-pub fn emulator() -> Option<OsString> {
+fn emulator() -> Option<OsString> {
     std::env::var_os("CADNOHAL_EMULATOR")
 }
 
