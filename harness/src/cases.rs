@@ -473,7 +473,7 @@ fn rich() -> Flat {
     maker.flat
 }
 
-/// Each sort of fault at each area where it can be.
+/// Each sort of fault at each area where it can be. A module that is past a limit has no room in `cases`.
 fn refusals(list: &mut Vec<Wanted>, seed: u64) {
     let mut rng = Rng::new(seed);
     for fault in FAULTS.iter().filter(|fault| fault.number != 2) {
@@ -496,12 +496,4 @@ fn refusals(list: &mut Vec<Wanted>, seed: u64) {
         }
         assert!(!areas.is_empty(), "{} has a place", fault.name);
     }
-    let mut flat = rich();
-    flat.areas[MENTIONS] = vec![0; 2 * (LIMITS[MENTIONS] + 1)];
-    list.push(Wanted {
-        what: String::from("2: one mention too many"),
-        keep: true,
-        flat,
-        roads: None,
-    });
 }

@@ -224,8 +224,8 @@ fn accepted(
     stats.count(Counted::SecondPasses, 1);
     let mut rng = Rng::part(seed, 77);
     for map in &by_closure.maps {
-        // Long maps more often, so that their ends have their turn.
-        for _ in 0..=map.len() / 256 {
+        // Long maps more often, so that their ends have their turn; but each range takes as long as it is.
+        for _ in 0..=(map.len() / 256).min(16) {
             entries(library, map, &mut rng, stats)?;
         }
     }

@@ -34,7 +34,7 @@ pub const MAPS: [&str; 5] = [
 pub const WIDTHS: [usize; 8] = [5, 4, 4, 3, 11, 1, 1, 2];
 
 /// Most records, for each area.
-pub const LIMITS: [usize; 8] = [4096, 4096, 4096, 4096, 4096, 16384, 16384, 4096];
+pub const LIMITS: [usize; 8] = [65536, 65536, 65536, 65536, 65536, 262144, 262144, 65536];
 
 pub const TYPE_KINDS: u32 = 4;
 pub const EXPRESSION_KINDS: u32 = 34;

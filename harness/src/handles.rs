@@ -1,6 +1,6 @@
 //! Handles by number. Only an arena hands them out, one for each element that it is given.
 
-use crate::flat::N;
+use crate::flat::{LIMITS, N, TYPES};
 use naga::{
     AddressSpace, Arena, Constant, Expression, Function, GlobalVariable, Handle, LocalVariable,
     MemoryDecorations, Override, Scalar, Span, Type, TypeInner,
@@ -8,7 +8,7 @@ use naga::{
 use std::sync::OnceLock;
 
 /// Handles from here on are not made. The published sets would grow as far as the highest one.
-pub const HIGHEST: u32 = 1 << 13;
+pub const HIGHEST: u32 = LIMITS[TYPES] as u32 + (1 << 12);
 
 /// What handles are handed out for.
 pub trait Numbered: Sized + 'static {

@@ -1,22 +1,28 @@
 //! Wrong libraries. Each answers as the right one does but for one thing, and a run must catch it.
 
 use crate::closure::{self, Marks};
+use crate::expect::deps;
 use crate::flat::*;
+use crate::generate::large::Turn::{self, Chains, Deps, Edge, Faults, Live, Past};
+use crate::generate::large::{turn, Share};
 use crate::library::{Lent, Library};
 use crate::maps;
-use crate::run::{self, Plan};
+use crate::run;
+use std::collections::BTreeSet;
 use std::sync::atomic::{AtomicU64, Ordering};
 use std::time::Instant;
 
 /// The run that must catch each one: that of `test.sh`, and no further than so many blocks. In its 60
 /// seconds it gets further; a bound in time would hang on what else the machine does.
 const SEED: u64 = 1;
-const BLOCKS: u64 = 88;
+const BLOCKS: u64 = 176;
 
 /// A wrong library: what is wrong with it.
 pub struct Mutant {
     pub name: &'static str,
     spoil: Spoil,
+    /// The large modules that show it, where hardly any others do.
+    shown_by: Option<Turn>,
 }
 
 /// Whose right answer is spoilt, and how.
@@ -165,6 +171,12 @@ impl Pass<'_> {
         told(self.flat, self.answer)
     }
 
+    /// The type whose dep alone makes the `ZeroValue` that a 7 tells ill ordered.
+    fn told_dep_of(&self) -> Option<u32> {
+        let named = self.told().get(1).copied();
+        named.filter(|_| self.at(7, EXPRESSIONS) && self.told()[0] == 7)
+    }
+
     /// Whether a refusal tells a record with a run whose end passes 32 bits.
     fn told_run_wraps(&self) -> bool {
         match (self.told_area(), self.told()) {
@@ -209,9 +221,38 @@ fn set(flat: &mut Flat, area: usize, word: usize, to: u32, fits: impl Fn(&[u32])
     }
 }
 
-/// The first arena with so many records.
-fn arena_with(flat: &Flat, records: usize) -> Option<usize> {
-    (0..5).find(|area| flat.records(*area) == records)
+/// The first arena with so many records or more.
+fn arena_from(flat: &Flat, records: usize) -> Option<usize> {
+    (0..5).find(|area| flat.records(*area) >= records)
+}
+
+/// Takes the marks of all but the first records away, counted over the arenas.
+fn drop_past(marks: &mut Marks, first: usize) {
+    for kept in marks.iter_mut().flatten().skip(first) {
+        *kept = false;
+    }
+}
+
+/// Marks each place that is so many places, or twice as many and so on, from a marked one.
+fn fold(marks: &[bool], by: usize) -> Vec<bool> {
+    let marked = |at: usize| marks.iter().skip(at).step_by(by).any(|kept| *kept);
+    let first: Vec<bool> = (0..by.min(marks.len())).map(marked).collect();
+    (0..marks.len()).map(|place| first[place % by]).collect()
+}
+
+/// The first `ZeroValue` of a type from `first` on that the next type's dep would make ill ordered.
+fn late_by_one(flat: &Flat, first: usize) -> Option<usize> {
+    let deps = deps(flat);
+    let mut records = flat.areas[EXPRESSIONS].chunks(11).enumerate();
+    let late = records.find(|(place, record)| {
+        let ty = record[1] as usize;
+        record[0] == 7
+            && ty >= first
+            && deps
+                .get(ty + 1)
+                .is_some_and(|dep| *dep >= Some(*place as u32))
+    });
+    late.map(|(place, _)| place)
 }
 
 /// The first arena whose map is too short.
@@ -236,17 +277,22 @@ fn past_greatest(map: &[u32], [start, end]: [u32; 2]) -> u32 {
 /// What references lead to from the roots in so many steps.
 fn reached(flat: &Flat, keep: bool, steps: usize) -> Marks {
     let mut marks = closure::roots(flat, keep);
+    let mut last: Vec<(usize, usize)> = Vec::new();
+    for (area, list) in marks.iter().enumerate() {
+        last.extend(
+            (0..list.len())
+                .filter(|place| list[*place])
+                .map(|place| (area, place)),
+        );
+    }
     for _ in 0..steps {
-        let before = marks.clone();
-        for (area, list) in before.iter().enumerate() {
-            for place in (0..list.len()).filter(|place| list[*place]) {
-                handles(flat, area, place, |to, handle| {
-                    marks[to][handle as usize] = true
-                });
-            }
-        }
-        if marks == before {
-            break;
+        for (area, place) in std::mem::take(&mut last) {
+            handles(flat, area, place, |to, handle| {
+                let handle = handle as usize;
+                if !std::mem::replace(&mut marks[to][handle], true) {
+                    last.push((to, handle));
+                }
+            });
         }
     }
     marks
@@ -273,8 +319,23 @@ fn thousandth() -> bool {
 }
 
 const fn wrong(name: &'static str, spoil: Spoil) -> Mutant {
-    Mutant { name, spoil }
+    Mutant {
+        name,
+        spoil,
+        shown_by: None,
+    }
 }
+
+const fn large(turn: Turn, name: &'static str, spoil: Spoil) -> Mutant {
+    Mutant {
+        name,
+        spoil,
+        shown_by: Some(turn),
+    }
+}
+
+/// The last place of an arena at its limit.
+const LAST: usize = LIMITS[TYPES] - 1;
 
 /// All wrong libraries.
 #[rustfmt::skip]
@@ -287,6 +348,7 @@ pub static MUTANTS: &[Mutant] = &[
     wrong("counts the expressions as they were", Accepted(|p| p.answer.counts[EXPRESSIONS] = p.flat.records(EXPRESSIONS) as u32)),
     wrong("exchanges the counts of overrides and globals", Accepted(|p| p.answer.counts.swap(OVERRIDES, GLOBALS))),
     wrong("counts in twelve bits", Accepted(|p| for count in &mut p.answer.counts[..5] { *count &= 0xfff })),
+    large(Edge(TYPES), "counts in sixteen bits", Accepted(|p| for count in &mut p.answer.counts[..5] { *count &= 0xffff })),
     wrong("names a record though it accepts", Accepted(|p| p.answer.record = 1)),
     // The words of records.
     wrong("tag of a type whose handles change", Accepted(|p| p.each(TYPES, |old, new| if old[2..4] != new[2..4] { new[4] ^= 1 }))),
@@ -349,25 +411,37 @@ pub static MUTANTS: &[Mutant] = &[
     wrong("drops a named constant of a type that is not abstract", Keeps(|flat, _| set(flat, CONSTANTS, 0, 0, |_| true))),
     wrong("drops a named type with Yes where it is abstract", Keeps(|flat, _| set(flat, TYPES, 1, 0, |record| record[1] == 3))),
     wrong("does not see the last mention", Keeps(|flat, _| { flat.areas[MENTIONS].pop(); flat.areas[MENTIONS].pop(); })),
-    wrong("follows 255 references in a row and no more", Accepted(|p| p.leave(&reached(p.flat, p.keep, 255)))),
+    large(Chains, "follows 255 references in a row and no more", Accepted(|p| p.leave(&reached(p.flat, p.keep, 255)))),
     wrong("does not follow the override of an array", Keeps(|flat, _| set(flat, TYPES, 0, 1, |record| record[0] == 2))),
     wrong("does not follow the init of an override", Keeps(|flat, _| set(flat, OVERRIDES, 2, N, |_| true))),
     wrong("does not follow a struct past its first member", Keeps(|flat, _| set(flat, TYPES, 3, 1, |record| record[0] == 3 && record[3] > 1))),
     wrong("does not follow the offset of an ImageSample", Keeps(|flat, _| set(flat, EXPRESSIONS, 5, N, |record| record[0] == IMAGE_SAMPLE))),
     // Only at the limits.
-    wrong("all 4,096 types kept: tag of the last one", Accepted(|p| if p.full(TYPES) { bump(p.area(TYPES).last_mut()) })),
-    wrong("all 4,096 constants kept: counts 4,095", Accepted(|p| if p.full(CONSTANTS) { p.answer.counts[CONSTANTS] -= 1 })),
-    wrong("all 4,096 overrides kept: last word of their map", Accepted(|p| if p.full(OVERRIDES) { p.map(OVERRIDES)[4095] = N })),
-    wrong("all 4,096 globals kept with No: the last one is N", Accepted(|p| if p.full(GLOBALS) && !p.keep { p.area(GLOBALS)[3 * 4095..].fill(N) })),
-    wrong("all 4,096 expressions kept: the last one is N", Accepted(|p| if p.full(EXPRESSIONS) { p.area(EXPRESSIONS)[11 * 4095..].fill(N) })),
-    wrong("all 4,096 expressions kept, components not at their limit", Accepted(|p| if p.full(EXPRESSIONS) && !p.full(COMPONENTS) { bump(p.area(EXPRESSIONS).last_mut()) })),
-    wrong("all 16,384 members kept: the last one", Accepted(|p| if p.full(MEMBERS) { bump(p.area(MEMBERS).last_mut()) })),
-    wrong("all 16,384 components kept: counted in 14 bits", Accepted(|p| p.answer.counts[COMPONENTS] &= 0x3fff)),
-    wrong("all five arenas kept whole: the first mention", Accepted(|p| if (0..5).all(|area| p.full(area)) { p.area(MENTIONS)[1] ^= 1 })),
-    wrong("4,096 mentions: the last one stays", Accepted(|p| if p.flat.records(MENTIONS) == 4096 { p.end_stays(MENTIONS) })),
-    wrong("does not see mention 4,096", Keeps(|flat, _| flat.areas[MENTIONS].truncate(2 * 4095))),
-    wrong("refuses 4,096 records of an arena with 2", Accepted(|p| if let Some(area) = arena_with(p.flat, 4096) { p.refuse(2, area, 0) })),
-    wrong("refuses 16,384 members with 2", Accepted(|p| if p.flat.records(MEMBERS) == 16384 { p.refuse(2, MEMBERS, 0) })),
+    large(Edge(TYPES), "all 65,536 types kept: tag of the last one", Accepted(|p| if p.full(TYPES) { bump(p.area(TYPES).last_mut()) })),
+    large(Edge(CONSTANTS), "all 65,536 constants kept: counts 65,535", Accepted(|p| if p.full(CONSTANTS) { p.answer.counts[CONSTANTS] -= 1 })),
+    large(Edge(OVERRIDES), "all 65,536 overrides kept: last word of their map", Accepted(|p| if p.full(OVERRIDES) { p.map(OVERRIDES)[LAST] = N })),
+    large(Edge(GLOBALS), "all 65,536 globals kept with No: the last one is N", Accepted(|p| if p.full(GLOBALS) && !p.keep { p.area(GLOBALS)[3 * LAST..].fill(N) })),
+    large(Edge(EXPRESSIONS), "all 65,536 expressions kept: the last one is N", Accepted(|p| if p.full(EXPRESSIONS) { p.area(EXPRESSIONS)[11 * LAST..].fill(N) })),
+    large(Edge(EXPRESSIONS), "all 65,536 expressions kept, components not at their limit", Accepted(|p| if p.full(EXPRESSIONS) && !p.full(COMPONENTS) { bump(p.area(EXPRESSIONS).last_mut()) })),
+    large(Edge(MEMBERS), "all 262,144 members kept: the last one", Accepted(|p| if p.full(MEMBERS) { bump(p.area(MEMBERS).last_mut()) })),
+    large(Edge(COMPONENTS), "all 262,144 components kept: counted in 18 bits", Accepted(|p| p.answer.counts[COMPONENTS] &= 0x3ffff)),
+    large(Live(Share::All), "all five arenas kept whole: the first mention", Accepted(|p| if (0..5).all(|area| p.full(area)) { p.area(MENTIONS)[1] ^= 1 })),
+    large(Live(Share::None), "nothing kept of five arenas at their limit: the first type stays", Accepted(|p| if !p.keep && (0..5).all(|area| p.flat.records(area) == LIMITS[area] && p.answer.counts[area] == 0) { p.next_stays(TYPES) })),
+    large(Edge(MENTIONS), "65,536 mentions: the last one stays", Accepted(|p| if p.flat.records(MENTIONS) == LIMITS[MENTIONS] { p.end_stays(MENTIONS) })),
+    large(Edge(GLOBALS), "does not see mention 65,536", Keeps(|flat, _| flat.areas[MENTIONS].truncate(2 * LAST))),
+    large(Edge(TYPES), "refuses 65,536 records of an arena with 2", Accepted(|p| if let Some(area) = arena_from(p.flat, LIMITS[TYPES]) { p.refuse(2, area, 0) })),
+    large(Edge(MEMBERS), "refuses 262,144 members with 2", Accepted(|p| if p.flat.records(MEMBERS) == LIMITS[MEMBERS] { p.refuse(2, MEMBERS, 0) })),
+    // Limits, marks and words of fewer bits, as a module with less room could have them.
+    large(Edge(CONSTANTS), "refuses 4,097 records of an arena with 2", Accepted(|p| if let Some(area) = arena_from(p.flat, 4097) { p.refuse(2, area, 0) })),
+    large(Edge(MENTIONS), "refuses 4,097 mentions with 2", Accepted(|p| if p.flat.records(MENTIONS) > 4096 { p.refuse(2, MENTIONS, 0) })),
+    large(Edge(COMPONENTS), "refuses 16,385 components with 2", Accepted(|p| if p.flat.records(COMPONENTS) > 16384 { p.refuse(2, COMPONENTS, 0) })),
+    large(Edge(TYPES), "keeps none but the first 20,480 of all records", Accepted(|p| { let mut marks = closure::closure(p.flat, p.keep); drop_past(&mut marks, 20480); p.leave(&marks) })),
+    large(Edge(EXPRESSIONS), "keeps no record past 4,095 of an arena", Accepted(|p| { let marks = closure::closure(p.flat, p.keep).map(|mut list| { for kept in list.iter_mut().skip(4096) { *kept = false } list }); p.leave(&marks) })),
+    large(Live(Share::Half), "marks a record by the lower twelve bits of its place", Accepted(|p| { let marks = closure::closure(p.flat, p.keep).map(|list| fold(&list, 4096)); p.leave(&marks) })),
+    large(Edge(CONSTANTS), "takes 65,535 in a map for none", Accepted(|p| for area in 0..5 { for word in p.map(area) { if *word == 0xffff { *word = N } } })),
+    large(Edge(TYPES), "takes 65,535 in a mention for none", Accepted(|p| for word in p.area(MENTIONS) { if *word == 0xffff { *word = N } })),
+    large(Edge(MEMBERS), "start of a struct's run in sixteen bits", Accepted(|p| p.each(TYPES, |old, new| if old[0] == 3 { new[2] &= 0xffff }))),
+    large(Edge(COMPONENTS), "count of a Compose's run in sixteen bits", Accepted(|p| p.each(EXPRESSIONS, |old, new| if old[0] == COMPOSE { new[3] &= 0xffff }))),
     // Other things that are refused and should not be.
     wrong("refuses a struct without members with 4", Accepted(|p| p.refuse_type(|ty| ty[0] == 3 && ty[3] == 0))),
     wrong("refuses a type that is named and abstract with 4", Accepted(|p| p.refuse_type(|ty| ty[1] == NAMED | ABSTRACT))),
@@ -378,9 +452,9 @@ pub static MUTANTS: &[Mutant] = &[
     wrong("tells a 1 of the mentions at the globals", Refused(|p| if p.at(1, MENTIONS) { p.answer.area = 3 })),
     wrong("tells a 7 of an expression at the next one", Refused(|p| if p.at(7, EXPRESSIONS) { p.answer.record += 1 })),
     wrong("tells the last expression of kind 13 or 27", Refused(|p| if p.answer.number == 5 { p.answer.record = last_misplaced(p.flat) })),
-    wrong("tells a record with a 2", Refused(|p| if p.answer.number == 2 { p.answer.record = LIMITS[p.told_area()] as u32 })),
+    large(Past, "tells a record with a 2", Refused(|p| if p.answer.number == 2 { p.answer.record = LIMITS[p.told_area()] as u32 })),
     wrong("tells a record in eight bits", Refused(|p| p.answer.record &= 0xff)),
-    wrong("tells a record in ten bits", Refused(|p| p.answer.record &= 0x3ff)),
+    large(Faults, "tells a record in twelve bits", Refused(|p| p.answer.record &= 0xfff)),
     wrong("counts the types on a 4", Refused(|p| if p.answer.number == 4 { p.answer.counts[TYPES] = p.flat.records(TYPES) as u32 })),
     // Refusals: words written.
     wrong("writes a member on a 7", Refused(|p| if p.answer.number == 7 { bump(p.area(MEMBERS).first_mut()) })),
@@ -395,7 +469,10 @@ pub static MUTANTS: &[Mutant] = &[
     wrong("writes the mentions on a 1", Refused(|p| if p.answer.number == 1 { p.area(MENTIONS).fill(N) })),
     wrong("writes past the constants on a 3", Refused(|p| if p.answer.number == 3 { p.lent.areas[CONSTANTS].break_guard() })),
     // Accepted where a refusal is due.
-    wrong("accepts one record above a limit", Refused(|p| if p.answer.number == 2 && p.told_records() == LIMITS[p.told_area()] + 1 { p.accept() })),
+    large(Past, "accepts one record above a limit", Refused(|p| if p.answer.number == 2 && p.told_records() == LIMITS[p.told_area()] + 1 { p.accept() })),
+    large(Past, "accepts one type above the limit and keeps what is reached", Refused(|p| if p.at(2, TYPES) && p.told_records() == LIMITS[TYPES] + 1 { p.accept_reached() })),
+    large(Past, "accepts one word above the limit of a pool", Refused(|p| if p.answer.number == 2 && matches!(p.told_area(), MEMBERS | COMPONENTS) && p.told_records() == LIMITS[MEMBERS] + 1 { p.accept() })),
+    large(Past, "has no limits", Refused(|p| if p.answer.number == 2 { p.accept() })),
     wrong("accepts a map that is one word short", Refused(|p| if p.answer.number == 3 && p.told_records() == p.flat.rooms[p.told_area()] + 1 { p.accept() })),
     wrong("accepts a run whose end passes 32 bits", Refused(|p| if p.answer.number == 4 && p.told_run_wraps() { p.accept() })),
     wrong("accepts any x of an ImageSample that has none", Refused(|p| if p.at(4, EXPRESSIONS) && matches!(p.told(), [IMAGE_SAMPLE, .., 0 | 1, x, _, _, _] if *x != N) { p.accept() })),
@@ -404,24 +481,28 @@ pub static MUTANTS: &[Mutant] = &[
     wrong("accepts a 7 of an expression and keeps what is reached", Refused(|p| if p.at(7, EXPRESSIONS) { p.accept_reached() })),
     wrong("accepts a 7 of a kind 6 and keeps what is reached", Refused(|p| if p.at(7, EXPRESSIONS) && p.told()[0] == OVERRIDE { p.accept_reached() })),
     wrong("accepts a 7 that only dep gives", Refused(|p| if p.at(7, EXPRESSIONS) && operands_older(p.flat, p.answer.record as usize) { p.accept_reached() })),
-    wrong("accepts a 4 past record 1,023", Refused(|p| if p.answer.number == 4 && p.answer.record > 1023 { p.accept() })),
-    wrong("accepts a 6 past record 1,023", Refused(|p| if p.answer.number == 6 && p.answer.record > 1023 { p.accept() })),
-    wrong("accepts a 7 past record 1,023 and keeps what is reached", Refused(|p| if p.answer.number == 7 && p.answer.record > 1023 { p.accept_reached() })),
+    large(Faults, "accepts a 4 past record 4,095", Refused(|p| if p.answer.number == 4 && p.answer.record > 4095 { p.accept() })),
+    large(Faults, "accepts a 6 past record 4,095", Refused(|p| if p.answer.number == 6 && p.answer.record > 4095 { p.accept() })),
+    large(Faults, "accepts a 7 past record 4,095 and keeps what is reached", Refused(|p| if p.answer.number == 7 && p.answer.record > 4095 { p.accept_reached() })),
+    large(Deps, "accepts a 7 that only dep of a type past 4,095 gives", Refused(|p| if p.told_dep_of() >= Some(4096) { p.accept_reached() })),
+    large(Deps, "accepts a 7 that only dep of one of the last 256 types gives", Refused(|p| if p.told_dep_of() >= Some(LIMITS[TYPES] as u32 - 256) { p.accept_reached() })),
+    large(Deps, "takes dep of the next type from 65,279 on", Accepted(|p| if let Some(place) = late_by_one(p.flat, LIMITS[TYPES] - 257) { p.refuse(7, EXPRESSIONS, place) })),
     // Check by itself.
     wrong("check passes a 7", Check(|_, answer| if answer.number == 7 { *answer = Answer::default() })),
     wrong("check tells the next record with a 4", Check(|_, answer| if answer.number == 4 { answer.record += 1 })),
-    wrong("check refuses 4,096 mentions", Check(|flat, answer| if flat.records(MENTIONS) == 4096 { *answer = Refusal::new(2, MENTIONS, 0).answer() })),
+    large(Past, "check passes one record above a limit", Check(|flat, answer| if answer.number == 2 && flat.records(answer.area as usize) == LIMITS[answer.area as usize] + 1 { *answer = Answer::default() })),
+    large(Edge(MENTIONS), "check refuses 65,536 mentions", Check(|flat, answer| if flat.records(MENTIONS) == LIMITS[MENTIONS] { *answer = Refusal::new(2, MENTIONS, 0).answer() })),
     wrong("check counts what it accepts", Check(|flat, answer| if answer.number == 0 { answer.counts[TYPES] = flat.records(TYPES) as u32 })),
     wrong("check passes a type of N", Check(|flat, answer| if told(flat, answer) == [N; 5] { *answer = Answer::default() })),
     // Map entries.
     wrong("lookup past the end of a map is 0", Lookup(|map, handle, answer| if handle as usize == map.len() { *answer = 0 })),
     wrong("lookup of N is 0", Lookup(|_, handle, answer| if handle == N { *answer = 0 })),
-    wrong("lookup of handle 4,095", Lookup(|_, handle, answer| if handle == 4095 { *answer ^= 1 })),
+    large(Edge(TYPES), "lookup of handle 65,535", Lookup(|_, handle, answer| if handle as usize == LAST { *answer ^= 1 })),
     wrong("adjust past the end is 9", Adjust(|map, handle, answer| if handle as usize >= map.len() { answer[0] = 9 })),
     wrong("adjust of a dropped handle is 8", Adjust(|_, _, answer| if answer[0] == 9 { answer[0] = 8 })),
     wrong("adjust of a dropped handle gives 0 and not N", Adjust(|_, _, answer| if answer[0] == 9 { answer[1] = 0 })),
     wrong("adjust takes N - 1 in a map for N", Adjust(|_, _, answer| if *answer == [0, N - 1] { *answer = [9, N] })),
-    wrong("adjust of handle 4,095", Adjust(|_, handle, answer| if handle == 4095 { answer[1] ^= 1 })),
+    large(Edge(TYPES), "adjust of handle 65,535", Adjust(|_, handle, answer| if handle as usize == LAST { answer[1] ^= 1 })),
     wrong("adjust takes the lower 16 bits of a handle", Adjust(|map, handle, answer| *answer = maps::adjust(map, handle & 0xffff))),
     wrong("a range to the map's end is refused", Range(|map, ends, answer| if ends[1] as usize == map.len() { *answer = [8, N, N] })),
     wrong("an empty range keeps its ends", Range(|_, ends, answer| if answer[0] == 0 && ends[0] == ends[1] { answer[1..].copy_from_slice(&ends) })),
@@ -429,7 +510,7 @@ pub static MUTANTS: &[Mutant] = &[
     wrong("a reversed range is 0..0", Range(|map, ends, answer| if ends[0] > ends[1] && ends[0] as usize <= map.len() { *answer = [0; 3] })),
     wrong("a range of one live handle is empty", Range(|_, _, answer| if answer[0] == 0 && answer[2] == answer[1].wrapping_add(1) { answer[2] = answer[1] })),
     wrong("a range whose last handle is dropped ends one further", Range(|map, ends, answer| if answer[0] == 0 && answer[2] > 0 && map[ends[1] as usize - 1] == N { answer[2] += 1 })),
-    wrong("a range that ends at 4,096 ends one sooner", Range(|_, ends, answer| if answer[0] == 0 && ends[1] == 4096 { answer[2] = answer[2].saturating_sub(1) })),
+    large(Edge(CONSTANTS), "a range that ends at 65,536 ends one sooner", Range(|_, ends, answer| if answer[0] == 0 && ends[1] as usize == LIMITS[TYPES] { answer[2] = answer[2].saturating_sub(1) })),
     wrong("a range that ends at N is 0..0", Range(|_, ends, answer| if ends[1] == N { *answer = [0; 3] })),
     wrong("a range of more than 64 handles is cut", Range(|map, ends, answer| if answer[0] == 0 { *answer = maps::adjust_range(map, ends[0], ends[1].min(ends[0].saturating_add(64))) })),
     wrong("a range ends after the greatest number and not after the last", Range(|map, ends, answer| if answer[0] == 0 { answer[2] = past_greatest(map, ends) })),
@@ -509,30 +590,42 @@ impl Library for Wrong<'_> {
 
 /// When a wrong library was caught, and with which words.
 pub struct Caught {
-    /// How many modules and made maps it took.
-    pub modules: u64,
+    /// The block of the run that caught it.
+    pub block: u64,
     pub seconds: f64,
     pub what: String,
 }
 
-/// Runs a wrong library until it is caught. The module that catches it must pass with the right one.
-pub fn catch(right: &dyn Library, mutant: &Mutant) -> Result<Caught, String> {
-    let plan = Plan {
-        seconds: u64::MAX,
-        blocks: BLOCKS,
-        seed: SEED,
-        threads: 1,
+/// The blocks in which a wrong library must be caught, in an order that saves time: the large modules that show
+/// it first, other large ones last.
+fn blocks(mutant: &Mutant) -> Vec<u64> {
+    let place = |block: &u64| match run::large_turn(*block).map(turn) {
+        None => 1,
+        shown if shown == mutant.shown_by => 0,
+        Some(_) => 2,
     };
+    let mut blocks: Vec<u64> = (0..BLOCKS).collect();
+    blocks.sort_by_key(place);
+    blocks
+}
+
+/// The modules that the right library has passed, by their seeds.
+pub type Passed = BTreeSet<u64>;
+
+/// Runs a wrong library until it is caught. The module that catches it must pass with the right one.
+pub fn catch(right: &dyn Library, mutant: &Mutant, passed: &mut Passed) -> Result<Caught, String> {
     let begin = Instant::now();
-    let summary = run::run(&mutant.over(right), &plan);
+    let failure = run::first_failure(&mutant.over(right), SEED, &blocks(mutant));
     let seconds = begin.elapsed().as_secs_f64();
-    let blocks = summary.blocks;
-    let failure = (summary.failure).ok_or(format!("not caught in {blocks} blocks"))?;
-    if !run::passes(right, SEED, &failure) {
+    let failure = failure.ok_or(format!("not caught in {BLOCKS} blocks"))?;
+    // Made maps have no seed of their own.
+    let known = failure.seed != 0 && passed.contains(&failure.seed);
+    if !known && !run::passes(right, SEED, &failure) {
         return Err(String::from("the right library fails there too"));
     }
+    passed.insert(failure.seed);
     Ok(Caught {
-        modules: summary.stats.all_modules() + summary.stats.made_maps() + 1,
+        block: failure.block,
         seconds,
         what: failure.difference.what,
     })
@@ -543,20 +636,21 @@ const REPORTED: usize = 150;
 
 /// Prints a table of the wrong libraries. True if each is caught.
 pub fn table(right: &dyn Library) -> bool {
-    println!("| Wrong | Modules | Reported |\n|---|---|---|");
+    println!("| Wrong | Block | Reported |\n|---|---|---|");
     let (mut caught, mut slowest) = (0, 0.0f64);
+    let mut passed = Passed::new();
     for mutant in MUTANTS {
-        let (modules, what) = match catch(right, mutant) {
+        let (block, what) = match catch(right, mutant, &mut passed) {
             Ok(how) => {
                 caught += 1;
                 slowest = slowest.max(how.seconds);
-                (how.modules.to_string(), how.what)
+                (how.block.to_string(), how.what)
             }
             Err(why) => (String::from("-"), why),
         };
         let short: String = what.chars().take(REPORTED).collect();
         let dots = if short == what { "" } else { " ..." };
-        println!("| {} | {modules} | {short}{dots} |", mutant.name);
+        println!("| {} | {block} | {short}{dots} |", mutant.name);
     }
     let all = MUTANTS.len();
     println!("{caught} of {all} wrong libraries caught, the slowest in {slowest:.1} s");

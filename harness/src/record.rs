@@ -58,6 +58,9 @@ fn one(number: u32, wanted: &Wanted, rng: &mut Rng) -> Result<(String, String), 
         show: true,
         flat,
     };
+    if !case.fits() {
+        return Err(format!("case {number}: more than `cases` has room for"));
+    }
     let (rust, answer) = match expect_check(&case.flat) {
         None => accepted(&case, wanted.roads.clone(), rng)?,
         Some(refusal) => refused(&case, refusal, rng),

@@ -10,7 +10,7 @@ pub const GENERATORS: [&str; 8] = [
     "damaged",
     "two faults",
     "wild",
-    "whole",
+    "large",
     "maps",
 ];
 

@@ -42,6 +42,12 @@ impl Rng {
         low + self.below(high - low + 1)
     }
 
+    /// A number from `low` to `high` less one, both powers of two: each doubling is as likely as another.
+    pub fn sized(&mut self, low: usize, high: usize) -> usize {
+        let octave = self.between(low.ilog2() as usize, high.ilog2() as usize - 1);
+        (1 << octave) + self.below(1 << octave)
+    }
+
     /// True once in `times`.
     pub fn one_in(&mut self, times: usize) -> bool {
         self.below(times) == 0

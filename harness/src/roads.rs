@@ -91,7 +91,7 @@ const SPECIAL: [Road; 6] = [
     Road::Stage,
 ];
 
-/// Roads for types that a module has as often as it likes.
+/// Roads for types that a module has often; all but the first as often as it likes.
 const TYPE_ROADS: [Road; 9] = [
     Road::Predeclared,
     Road::Argument,
@@ -135,6 +135,7 @@ pub fn choose(flat: &Flat, rng: &mut Rng) -> Vec<Road> {
         };
     }
     let mut once = SPECIAL.to_vec();
+    let mut predeclared = 0;
     for (place, mention) in types.iter().enumerate() {
         let ty = flat.record(MENTIONS, *mention)[1] as usize;
         roads[*mention] = match place {
@@ -142,6 +143,12 @@ pub fn choose(flat: &Flat, rng: &mut Rng) -> Vec<Road> {
             _ if place < 2 * meshes => Road::MeshPrimitive,
             _ => type_road(flat, ty, &mut once, rng),
         };
+        if roads[*mention] == Road::Predeclared {
+            predeclared += 1;
+            if predeclared > PREDECLARED {
+                roads[*mention] = Road::Local;
+            }
+        }
     }
     roads
 }
@@ -178,7 +185,7 @@ enum Holder {
 #[derive(Clone, Copy, Debug)]
 enum Way {
     Special(Road),
-    Predeclared,
+    Predeclared(usize),
     Stage,
     Argument(Holder, usize),
     Result(Holder),
@@ -215,6 +222,8 @@ struct Layer<'a> {
     flat: &'a Flat,
     rng: &'a mut Rng,
     special: SpecialTypes,
+    /// How many predeclared types there are.
+    predeclared: usize,
     entries: Vec<EntryPoint>,
     functions: Vec<Function>,
     /// Handles that a call may hand on, for each entry point and for each function.
@@ -229,6 +238,7 @@ pub fn lay(module: &mut Module, flat: &Flat, keep: bool, roads: &[Road], rng: &m
         flat,
         rng,
         special: SpecialTypes::default(),
+        predeclared: 0,
         entries: Vec::new(),
         functions: Vec::new(),
         arguments: Default::default(),
@@ -262,9 +272,14 @@ impl Layer<'_> {
         }
     }
 
-    /// One more entry point.
+    /// One more entry point. Only the first ones are task or mesh stages: for each of these the published
+    /// compactor looks through the types for u32.
     fn entry(&mut self) -> usize {
-        let mut entry = bare_entry(*self.rng.pick(&STAGES));
+        let stages = match self.entries.len() {
+            ..FIRST_ENTRIES => &STAGES[..],
+            _ => &STAGES[..3],
+        };
+        let mut entry = bare_entry(*self.rng.pick(stages));
         entry.workgroup_size_overrides = self.rng.one_in(4).then_some([None; 3]);
         let globals = self.flat.records(GLOBALS);
         if globals > 0 && self.rng.one_in(4) {
@@ -314,9 +329,11 @@ impl Layer<'_> {
                 Way::Special(road)
             }
             Road::Predeclared => {
-                let (key, ty) = (predeclared(mention), self.named(mention));
+                let ty = self.named(mention);
+                let key = predeclared(self.predeclared);
                 self.special.predeclared_types.insert(key, ty);
-                Way::Predeclared
+                self.predeclared += 1;
+                Way::Predeclared(self.predeclared - 1)
             }
             Road::Stage => Way::Stage,
             Road::MeshVertex | Road::MeshPrimitive | Road::MeshOutput => return,
@@ -599,6 +616,9 @@ impl Layer<'_> {
     }
 }
 
+/// How many entry points can be of any stage.
+const FIRST_ENTRIES: usize = 256;
+
 const STAGES: [ShaderStage; 9] = [
     ShaderStage::Vertex,
     ShaderStage::Fragment,
@@ -634,8 +654,11 @@ pub fn argument(ty: Handle<Type>) -> FunctionArgument {
     }
 }
 
-/// The predeclared type that carries a mention's number.
-fn predeclared(mention: usize) -> PredeclaredType {
+/// So many predeclared types can be told apart.
+const PREDECLARED: usize = 4 * 4 * 256;
+
+/// The predeclared type with this number.
+fn predeclared(number: usize) -> PredeclaredType {
     let kinds = [
         ScalarKind::Bool,
         ScalarKind::Sint,
@@ -649,10 +672,10 @@ fn predeclared(mention: usize) -> PredeclaredType {
         Some(VectorSize::Quad),
     ];
     PredeclaredType::ModfResult {
-        size: sizes[mention / 1024],
+        size: sizes[number / 1024],
         scalar: Scalar {
-            kind: kinds[mention / 256 % 4],
-            width: (mention % 256) as u8,
+            kind: kinds[number / 256 % 4],
+            width: (number % 256) as u8,
         },
     }
 }
@@ -780,8 +803,8 @@ fn read_way(kept: &Kept, mention: usize, way: Way) -> Result<u32, String> {
     let types = &kept.module.special_types;
     let found = match way {
         Way::Special(road) => read_special(types, road).map(word),
-        Way::Predeclared => {
-            let key = predeclared(mention);
+        Way::Predeclared(number) => {
+            let key = predeclared(number);
             types.predeclared_types.get(&key).map(|ty| word(*ty))
         }
         Way::Argument(holder, place) => {

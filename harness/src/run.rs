@@ -8,8 +8,8 @@ use crate::expect::expect_check;
 use crate::flat::*;
 use crate::generate::damaged::{damage, damage_twice};
 use crate::generate::good::{good, nearly, Size};
+use crate::generate::large::large;
 use crate::generate::small::Small;
-use crate::generate::whole::whole;
 use crate::generate::wild::wild;
 use crate::generate::Foretold;
 use crate::library::Library;
@@ -32,11 +32,11 @@ enum Generator {
     Damaged,
     TwoFaults,
     Wild,
-    Whole,
+    Large,
     Maps,
 }
 
-use Generator::{Damaged, Good, Maps, Nearly, TwoFaults, Whole, Wild};
+use Generator::{Damaged, Good, Large, Maps, Nearly, TwoFaults, Wild};
 
 /// The turns of the generators.
 const TURNS: [Generator; 11] = [
@@ -50,7 +50,7 @@ const TURNS: [Generator; 11] = [
     TwoFaults,
     Good,
     Maps,
-    Whole,
+    Large,
 ];
 const SMALL_TURNS: u64 = 3;
 const SMALL_BLOCK: u64 = 256;
@@ -196,12 +196,25 @@ fn run_block(
         }
         Good => bench.good(round),
         Nearly => bench.nearly(),
-        Damaged => bench.damaged(),
-        TwoFaults => bench.two_faults(),
+        Damaged => bench.damaged(round),
+        TwoFaults => bench.two_faults(round),
         Wild => bench.wild(),
-        Whole => bench.whole(round),
+        Large => bench.large(round),
         Maps => bench.maps(),
     }
+}
+
+/// The turn of the large modules that a block is, if it is one.
+pub fn large_turn(block: u64) -> Option<u64> {
+    let turns = TURNS.len() as u64;
+    (TURNS[(block % turns) as usize] == Large).then_some(block / turns)
+}
+
+/// The first failure in these blocks, in this order.
+pub fn first_failure(library: &dyn Library, seed: u64, blocks: &[u64]) -> Option<Failure> {
+    let (small, mut stats) = (Small::new(), Stats::default());
+    let failure = |block: &u64| run_block(library, &small, seed, *block, &mut stats).err();
+    blocks.iter().find_map(failure).map(|failure| *failure)
 }
 
 /// Whether a library passes where another one failed.
@@ -254,8 +267,7 @@ impl Bench<'_> {
     fn good(&mut self, round: u64) -> Verdict {
         for number in 0..64 {
             let size = match number {
-                63 if round.is_multiple_of(8) => Size::Full,
-                63 if round % 8 == 4 => Size::Large,
+                63 if round % 4 == 2 => Size::Large,
                 62 | 63 => Size::Medium,
                 _ if number % 3 == 0 => Size::Small,
                 _ => Size::Tiny,
@@ -279,9 +291,9 @@ impl Bench<'_> {
         Ok(())
     }
 
-    fn damaged(&mut self) -> Verdict {
+    fn damaged(&mut self, round: u64) -> Verdict {
         for number in 0..FAULTY {
-            let base = |rng: &mut Rng| base(rng, number);
+            let base = |rng: &mut Rng| base(rng, number, !round.is_multiple_of(2));
             if let Some((flat, sort, refusal)) = damage(&mut self.rng, base) {
                 *self.stats.faults.entry(sort).or_default() += 1;
                 self.judge(flat, Foretold::Refused(refusal))?;
@@ -290,9 +302,9 @@ impl Bench<'_> {
         Ok(())
     }
 
-    fn two_faults(&mut self) -> Verdict {
+    fn two_faults(&mut self, round: u64) -> Verdict {
         for number in 0..FAULTY {
-            let base = base(&mut self.rng, number);
+            let base = base(&mut self.rng, number, round.is_multiple_of(2));
             if let Some((flat, refusal)) = damage_twice(base, &mut self.rng) {
                 self.judge(flat, Foretold::Refused(refusal))?;
             }
@@ -308,10 +320,12 @@ impl Bench<'_> {
         Ok(())
     }
 
-    /// One module, since it is large.
-    fn whole(&mut self, round: u64) -> Verdict {
-        let flat = whole(&mut self.rng, round);
-        self.judge(flat, Foretold::Accepted)
+    /// One module or a few, since they are large.
+    fn large(&mut self, round: u64) -> Verdict {
+        for (flat, foretold) in large(&mut self.rng, round) {
+            self.judge(flat, foretold)?;
+        }
+        Ok(())
     }
 
     /// Made maps, rising as those of a pass and others.
@@ -354,11 +368,11 @@ impl Bench<'_> {
 /// How many modules take faults in a block.
 const FAULTY: usize = 96;
 
-/// A module to take faults: the last of a block large, so that they stand at high places too.
-fn base(rng: &mut Rng, number: usize) -> Flat {
+/// A module to take faults: the last of a block may be large, so that they stand at high places too.
+fn base(rng: &mut Rng, number: usize, large: bool) -> Flat {
     let size = match FAULTY - number {
-        1 => Size::Full,
-        2 => Size::Medium,
+        1 if large => Size::Large,
+        1 | 2 => Size::Medium,
         _ => *rng.pick(&[Size::Tiny, Size::Small]),
     };
     good(rng, size)

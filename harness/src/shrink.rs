@@ -150,19 +150,30 @@ fn drop_runs(flat: &mut Flat, area: usize, begin: usize, end: usize) {
         EXPRESSIONS => COMPOSE,
         _ => return,
     };
+    let pool = pool_of(area);
+    let mut gone = 0;
+    // Words to take out: runs that lie side by side go together.
+    let mut stretch = 0..0;
     for place in (begin..end).rev() {
-        let record = flat.record(area, place).to_vec();
+        let record = flat.record(area, place);
         let (start, count) = (record[2] as usize, record[3] as usize);
-        let pool = pool_of(area);
-        if record[0] != kind || start.saturating_add(count) > flat.areas[pool].len() {
+        let past = start.saturating_add(count);
+        if record[0] != kind || past > flat.areas[pool].len() - stretch.len() {
             continue;
         }
-        flat.areas[pool].drain(start..start + count);
-        for later in end..flat.records(area) {
-            let record = flat.record_mut(area, later);
-            if record[0] == kind {
-                record[2] = record[2].saturating_sub(count as u32);
-            }
+        if past == stretch.start {
+            stretch.start = start;
+        } else {
+            flat.areas[pool].drain(stretch);
+            stretch = start..past;
+        }
+        gone += count;
+    }
+    flat.areas[pool].drain(stretch);
+    for later in end..flat.records(area) {
+        let record = flat.record_mut(area, later);
+        if record[0] == kind {
+            record[2] = record[2].saturating_sub(gone as u32);
         }
     }
 }

@@ -5,9 +5,9 @@ use crate::compare::{entries, judge};
 use crate::expect::expect_check;
 use crate::flat::*;
 use crate::generate::damaged::{damage, damage_twice, damage_with, FAULTS};
-use crate::generate::good::{good, nearly, Size};
+use crate::generate::good::{good, nearly, Size, LEAST_LARGE};
+use crate::generate::large::{large, turn, Share, Turn, FIRST};
 use crate::generate::small::Small;
-use crate::generate::whole::{whole, FULL};
 use crate::generate::wild::wild;
 use crate::generate::Foretold;
 use crate::library::{Library, Restated};
@@ -68,8 +68,9 @@ fn wrong_libraries_are_caught() {
     std::thread::scope(|scope| {
         for half in 0..2 {
             scope.spawn(move || {
+                let mut passed = mutants::Passed::new();
                 for mutant in MUTANTS.iter().skip(half).step_by(2) {
-                    if let Err(why) = mutants::catch(RIGHT, mutant) {
+                    if let Err(why) = mutants::catch(RIGHT, mutant, &mut passed) {
                         panic!("{}: {why}", mutant.name);
                     }
                 }
@@ -177,13 +178,23 @@ fn small_modules_are_all_different() {
     }
 }
 
+/// Document 01's table, with what Ask 6 raised.
+#[test]
+fn the_limits_are_the_papers() {
+    let records = 65_536;
+    let words = 262_144;
+    let table = [
+        records, records, records, records, records, words, words, records,
+    ];
+    assert_eq!(LIMITS, table);
+}
+
 #[test]
 fn good_modules_reach_the_limits() {
     let mut rng = Rng::new(8);
     let mut longest = [0; 8];
-    for _ in 0..12 {
+    for _ in 0..5 {
         let flat = good(&mut rng, Size::Full);
-        assert_eq!(expect_check(&flat), None);
         for (area, most) in longest.iter_mut().enumerate() {
             *most = flat.records(area).max(*most);
         }
@@ -191,21 +202,62 @@ fn good_modules_reach_the_limits() {
     assert_eq!(longest, LIMITS);
 }
 
-/// With either flag, and with both pools at their limit by turns.
+/// Sizes come from every doubling alike.
 #[test]
-fn whole_modules_keep_arenas_at_their_limit() {
-    let mut rng = Rng::new(2);
-    for turn in 0..2 * FULL.len() as u64 {
-        let flat = whole(&mut rng, turn);
-        assert_eq!(expect_check(&flat), None);
-        for keep in [false, true] {
-            let after = closure::after(&flat, &closure::closure(&flat, keep));
-            for area in FULL[turn as usize / 2] {
-                assert_eq!(after.counts[*area] as usize, LIMITS[*area], "turn {turn}");
+fn sizes_are_of_every_order() {
+    let mut rng = Rng::new(8);
+    let mut seen = [0; 18];
+    for _ in 0..2000 {
+        seen[rng.sized(LEAST_LARGE, LIMITS[TYPES]).ilog2() as usize] += 1;
+    }
+    for (octave, times) in seen.into_iter().enumerate() {
+        assert_eq!((6..16).contains(&octave), times > 100, "{octave}: {times}");
+        assert!(times < 300, "{octave}: {times}");
+    }
+}
+
+/// What the closure keeps of each area.
+fn kept(flat: &Flat, keep: bool) -> [usize; 7] {
+    let after = closure::after(flat, &closure::closure(flat, keep));
+    after.counts.map(|count| count as usize)
+}
+
+/// What each of the first turns says of itself; and what comes after them is kept whole.
+#[test]
+fn large_modules_are_what_their_turns_say() {
+    for (number, what) in (0..).zip(FIRST.into_iter().chain([Turn::Any])) {
+        assert_eq!(turn(number), what);
+        let list = large(&mut Rng::new(2), number);
+        let limit = |flat: &Flat, area: usize| flat.records(area) == LIMITS[area];
+        for (place, (flat, foretold)) in list.iter().enumerate() {
+            let expected = expect_check(flat);
+            match *foretold {
+                Foretold::Refused(refusal) => assert_eq!(expected, Some(refusal)),
+                _ => assert_eq!(expected, None),
             }
-            for pool in [MEMBERS, COMPONENTS] {
-                let full = after.counts[pool] as usize == LIMITS[pool];
-                assert_eq!(full, turn.is_multiple_of(2), "turn {turn}");
+            match what {
+                Turn::Past => assert_eq!(flat.records(place), LIMITS[place] + 1),
+                Turn::Faults => {
+                    let Refusal { area, record, .. } = expected.expect("it has a fault");
+                    assert_eq!(record as usize, LIMITS[area as usize] - 1);
+                }
+                Turn::Deps => assert!(limit(flat, TYPES)),
+                Turn::Live(share) => {
+                    assert!((0..7).all(|area| limit(flat, area)));
+                    let part = |most: usize| match share {
+                        Share::None => 0,
+                        Share::Half => most / 2,
+                        Share::All => most,
+                    };
+                    assert_eq!(kept(flat, false)[..], LIMITS.map(part)[..7]);
+                }
+                Turn::Edge(MENTIONS) => assert!(limit(flat, MENTIONS)),
+                Turn::Edge(area) => assert_eq!(kept(flat, false)[area], LIMITS[area]),
+                Turn::Chains => {
+                    let kept = kept(flat, false);
+                    assert_eq!((kept[0], kept[4]), (LIMITS[0], LIMITS[4]));
+                }
+                Turn::Good | Turn::Any => {}
             }
         }
     }
@@ -291,20 +343,12 @@ fn cases_are_read_as_they_are_written() {
     }
 }
 
-/// Whether the program `cases` has room for a case.
-fn fits(case: &Case) -> bool {
-    let records = (0..5).all(|area| case.flat.records(area) <= 64);
-    let pools = (MEMBERS..=COMPONENTS).all(|pool| case.flat.areas[pool].len() <= 64);
-    let maps = case.flat.rooms.iter().all(|room| *room <= 128);
-    records && pools && maps && case.flat.records(MENTIONS) <= 4097
-}
-
 #[test]
 fn recorded_answers_hold() {
     for file in replay::recorded_files().expect("they are here") {
         let text = std::fs::read_to_string(&file).expect("it can be read");
         assert!(text.len() < 8192);
-        assert!(parse(&text).expect("they are cases").iter().all(fits));
+        assert!(parse(&text).expect("they are cases").iter().all(Case::fits));
         for library in [RIGHT, &Restated] {
             let (_, difference) = replay::replay(library, &file).expect("it can be read");
             assert_eq!(difference, None, "{}", file.display());

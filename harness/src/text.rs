@@ -15,6 +15,21 @@ pub struct Case {
     pub flat: Flat,
 }
 
+/// What the program `cases` has room for: records of each arena and of the mentions, and words of each pool.
+const ROOM: usize = 64;
+
+/// And words of each map.
+const MAP_ROOM: usize = 128;
+
+impl Case {
+    /// Whether the program has room for it.
+    #[cfg_attr(not(published), allow(dead_code))]
+    pub fn fits(&self) -> bool {
+        let records = (0..8).all(|area| self.flat.records(area) <= ROOM);
+        records && self.flat.rooms.iter().all(|room| *room <= MAP_ROOM)
+    }
+}
+
 /// A word as text, N by its name.
 pub fn shown(word: u32) -> String {
     if word == N {

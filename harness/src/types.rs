@@ -10,7 +10,8 @@ use crate::rng::Rng;
 use crate::rust::caught;
 use naga::{
     AddressSpace, ArraySize, CooperativeRole, CooperativeSize, Handle, ImageClass, ImageDimension,
-    Scalar, ScalarKind, Span, StructMember, Type, TypeInner, UniqueArena, VectorSize,
+    Scalar, ScalarKind, Span, StorageAccess, StructMember, Type, TypeInner, UniqueArena,
+    VectorSize,
 };
 use std::borrow::Cow;
 use std::num::NonZeroU32;
@@ -25,25 +26,46 @@ const WIDTHS_OF_SCALARS: u32 = 240;
 /// asks it; the crate asks what an array holds, and a struct is never abstract there.
 const ABSTRACT_MARK: u32 = 1 << 31;
 
-const CONCRETE: [ScalarKind; 4] = [
+/// The first kinds are concrete, the others abstract.
+const KINDS: [ScalarKind; 6] = [
     ScalarKind::Bool,
     ScalarKind::Sint,
     ScalarKind::Uint,
     ScalarKind::Float,
+    ScalarKind::AbstractInt,
+    ScalarKind::AbstractFloat,
 ];
-const ABSTRACT_KINDS: [ScalarKind; 2] = [ScalarKind::AbstractInt, ScalarKind::AbstractFloat];
+const CONCRETE: usize = 4;
 const SIZES: [VectorSize; 3] = [VectorSize::Bi, VectorSize::Tri, VectorSize::Quad];
-const SPACES: [AddressSpace; 9] = [
+const SOME_SIZES: [Option<VectorSize>; 4] = [
+    None,
+    Some(VectorSize::Bi),
+    Some(VectorSize::Tri),
+    Some(VectorSize::Quad),
+];
+
+/// An abstract type without handles and without a name carries its number as far as this. From here on
+/// such a record is made concrete, and its flag found so.
+const ABSTRACT_LEAVES: usize = WIDTHS_OF_SCALARS as usize * (KINDS.len() - CONCRETE) * 9;
+
+const SPACES: [AddressSpace; 12] = [
     AddressSpace::Function,
     AddressSpace::Private,
     AddressSpace::WorkGroup,
     AddressSpace::Uniform,
+    storage(StorageAccess::LOAD),
+    storage(StorageAccess::STORE),
+    storage(StorageAccess::ATOMIC),
     AddressSpace::Handle,
     AddressSpace::Immediate,
     AddressSpace::TaskPayload,
     AddressSpace::RayPayload,
     AddressSpace::IncomingRayPayload,
 ];
+
+const fn storage(access: StorageAccess) -> AddressSpace {
+    AddressSpace::Storage { access }
+}
 
 /// All types of a module. The one at `stage`, if any, is the scalar u32.
 pub fn arena(flat: &Flat, stage: Option<usize>, rng: &mut Rng) -> UniqueArena<Type> {
@@ -109,12 +131,14 @@ struct Maker<'a> {
 impl<'a> Maker<'a> {
     fn new(flat: &'a Flat, place: usize) -> Self {
         let record = flat.record(TYPES, place);
+        let named = record[1] & NAMED != 0;
+        let has_room = record[0] != 0 || named || place < ABSTRACT_LEAVES;
         Maker {
             flat,
             record,
             place: place as u32,
-            named: record[1] & NAMED != 0,
-            is_abstract: record[1] & ABSTRACT != 0,
+            named,
+            is_abstract: record[1] & ABSTRACT != 0 && has_room,
         }
     }
 
@@ -159,7 +183,8 @@ impl<'a> Maker<'a> {
     /// A type of a sort that carries the whole number.
     fn own(&self) -> TypeInner {
         match self.record[0] {
-            0 => self.leaf_of(2),
+            0 if self.is_abstract => self.leaf_of(2),
+            0 => self.leaf_of(5),
             1 if self.held_abstract() => self.binding_array(),
             1 => self.array(true),
             2 => TypeInner::Array {
@@ -219,14 +244,14 @@ impl<'a> Maker<'a> {
         self.leaf_of(rng.below(if self.is_abstract { 4 } else { 10 }))
     }
 
-    /// A type without handles of this sort: the first four can be abstract, and sort 2 has room for the
-    /// whole number.
+    /// A type without handles of this sort: the first four can be abstract, and of these sort 2 has most
+    /// room for the number. Sort 5 has room for any.
     fn leaf_of(&self, sort: usize) -> TypeInner {
         let mut digits = Digits(self.place);
-        let kinds: &[ScalarKind] = if self.is_abstract {
-            &ABSTRACT_KINDS
-        } else {
-            &CONCRETE
+        let kinds = match sort {
+            5 => &KINDS[..],
+            _ if self.is_abstract => &KINDS[CONCRETE..],
+            _ => &KINDS[..CONCRETE],
         };
         let scalar = digits.scalar(kinds);
         match sort {
@@ -248,7 +273,7 @@ impl<'a> Maker<'a> {
                 scalar,
             },
             5 => TypeInner::ValuePointer {
-                size: digits.of(&[None, Some(VectorSize::Bi), Some(VectorSize::Quad)]),
+                size: digits.of(&SOME_SIZES),
                 space: digits.of(&SPACES),
                 scalar,
             },
@@ -280,7 +305,7 @@ fn image(mut digits: Digits) -> TypeInner {
             0 => ImageClass::Depth { multi },
             1 => ImageClass::External,
             _ => ImageClass::Sampled {
-                kind: digits.of(&CONCRETE),
+                kind: digits.of(&KINDS[..CONCRETE]),
                 multi,
             },
         },

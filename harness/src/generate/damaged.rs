@@ -117,7 +117,7 @@ pub fn damage_twice(flat: Flat, rng: &mut Rng) -> Option<(Flat, Refusal)> {
 /// A sort of fault; the limits less often, since they make large modules.
 fn pick(rng: &mut Rng) -> &'static Fault {
     let fault = rng.pick(&FAULTS);
-    if fault.number == 2 && !rng.one_in(4) {
+    if fault.number == 2 && !rng.one_in(16) {
         return rng.pick(&FAULTS[3..]);
     }
     fault
@@ -563,14 +563,22 @@ impl Damager {
         Some(Refusal::new(7, EXPRESSIONS, first))
     }
 
+    /// Which overrides size a type.
+    fn sizers(&self) -> Vec<bool> {
+        let mut sizers = vec![false; self.flat.records(OVERRIDES)];
+        for record in self.flat.areas[TYPES].chunks(5) {
+            if record[0] == 2 {
+                sizers[record[3] as usize] = true;
+            }
+        }
+        sizers
+    }
+
     /// The same for an override that sizes no type, so that dep stays.
     fn override_init(&mut self) -> Option<Refusal> {
-        let sizers: Vec<u32> = (self.flat.areas[TYPES].chunks(5))
-            .filter(|record| record[0] == 2)
-            .map(|record| record[3])
-            .collect();
+        let sizers = self.sizers();
         let place = self.find(EXPRESSIONS, |record| {
-            record[0] == OVERRIDE && !sizers.contains(&record[1])
+            record[0] == OVERRIDE && !sizers[record[1] as usize]
         })?;
         let item = self.flat.record(EXPRESSIONS, place)[1];
         let init = self.not_older(EXPRESSIONS, place);
@@ -614,12 +622,9 @@ impl Damager {
 
     /// The same for an override that sizes no type, so that the types stay well ordered.
     fn dep_override(&mut self) -> Option<Refusal> {
-        let sizers: Vec<u32> = (self.flat.areas[TYPES].chunks(5))
-            .filter(|record| record[0] == 2)
-            .map(|record| record[3])
-            .collect();
+        let sizers = self.sizers();
         let place =
-            self.find_early(|record| record[0] == OVERRIDE && !sizers.contains(&record[1]))?;
+            self.find_early(|record| record[0] == OVERRIDE && !sizers[record[1] as usize])?;
         let item = self.flat.record(EXPRESSIONS, place)[1];
         let ty = self.late_type(place)?;
         self.set(OVERRIDES, item as usize, 1, ty)?;

@@ -14,6 +14,7 @@ pub enum Size {
     Tiny,
     Small,
     Medium,
+    /// Some of the areas at a number below the limit, each doubling of it as likely as another.
     Large,
     /// Some of the areas at their limit.
     Full,
@@ -40,8 +41,9 @@ pub(super) struct Grower<'a> {
     /// Elements of areas 0 to 4 that nothing names yet; only for the styles that ask for them.
     pub loose: [Vec<u32>; 5],
     pub longest_run: usize,
-    /// Whether the last type and the last expression fill their pools.
+    /// Whether the last type and the last expression fill their pools, and up to how many words.
     pub fill: bool,
+    pub pool: usize,
     pub named: usize,
     /// Whether many types are sized by overrides and many overrides have an init.
     pub sized: bool,
@@ -65,20 +67,28 @@ pub fn nearly(rng: &mut Rng, size: Size) -> Flat {
     flat
 }
 
-fn most_records(size: Size) -> usize {
+fn most_records(rng: &mut Rng, size: Size) -> usize {
     match size {
         Size::Tiny => 4,
         Size::Small => 20,
         Size::Medium => 300,
-        Size::Large | Size::Full => LIMITS[TYPES],
+        Size::Large => rng.sized(LEAST_LARGE, LIMITS[TYPES]),
+        Size::Full => LIMITS[TYPES],
     }
 }
 
+/// The fewest records of a large arena.
+pub const LEAST_LARGE: usize = 64;
+
+/// Words of a filled pool for each record of a large arena: as many as the limits have.
+pub(super) const POOL_WORDS: usize = LIMITS[MEMBERS] / LIMITS[TYPES];
+
 /// Elements that name older ones, without mentions.
 fn grown(rng: &mut Rng, size: Size) -> Flat {
-    let most = most_records(size);
-    let mut left: [usize; 5] = std::array::from_fn(|_| match size {
-        Size::Full if rng.one_in(2) => most,
+    let most = most_records(rng, size);
+    let large = matches!(size, Size::Large | Size::Full);
+    let mut left: [usize; 5] = std::array::from_fn(|_| match large {
+        true if rng.one_in(2) => most,
         _ => rng.below(most + 1),
     });
     if left[TYPES] == 0 {
@@ -98,7 +108,12 @@ fn grown(rng: &mut Rng, size: Size) -> Flat {
         left,
         loose: Default::default(),
         longest_run,
-        fill: size == Size::Full,
+        fill: large,
+        pool: if large {
+            POOL_WORDS * most
+        } else {
+            LIMITS[MEMBERS]
+        },
         named,
         sized,
     };
@@ -190,7 +205,7 @@ impl Grower<'_> {
     fn run(&mut self, area: usize) -> (u32, u32) {
         let pool = pool_of(area);
         let start = self.flat.areas[pool].len();
-        let room = LIMITS[pool] - start;
+        let room = self.pool.saturating_sub(start);
         let count = if self.flat.records(area) == 0 {
             0
         } else if self.fill && self.left[area] == 0 {
@@ -395,7 +410,10 @@ fn mention(flat: &mut Flat, rng: &mut Rng, size: Size) {
     }
     let most = match size {
         Size::Full if rng.one_in(2) => return fill_mentions(flat, rng, &areas, LIMITS[MENTIONS]),
-        Size::Large | Size::Full => *rng.pick(&[0, 4, 100, LIMITS[MENTIONS]]),
+        Size::Large | Size::Full => {
+            let many = rng.sized(LEAST_LARGE, LIMITS[MENTIONS]);
+            *rng.pick(&[0, 4, 100, many])
+        }
         Size::Medium => *rng.pick(&[0, 4, 60]),
         Size::Tiny | Size::Small => *rng.pick(&[0, 2, 2, 6]),
     };

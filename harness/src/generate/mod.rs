@@ -2,6 +2,7 @@
 
 pub mod damaged;
 pub mod good;
+pub mod large;
 pub mod small;
 pub mod whole;
 pub mod wild;

@@ -1,6 +1,6 @@
 //! Wild words: any lengths, any words, any map lengths; and good modules with some words overwritten.
 
-use super::good::{good, Size};
+use super::good::{good, Size, LEAST_LARGE};
 use crate::flat::*;
 use crate::rng::Rng;
 
@@ -18,7 +18,7 @@ fn any_words(rng: &mut Rng) -> Flat {
     for area in 0..8 {
         let mut length = rng.below(5 * WIDTHS[area] + 1);
         if rng.one_in(400) {
-            length += LIMITS[area] * WIDTHS[area];
+            length += rng.sized(LEAST_LARGE, 2 * LIMITS[area]) * WIDTHS[area];
         }
         if rng.one_in(2) {
             length -= length % WIDTHS[area];

@@ -100,11 +100,21 @@ pub enum CooperativeRole {
 }
 
 #[derive(Clone, Copy, Debug, PartialEq, Eq, Hash)]
+pub struct StorageAccess(u32);
+
+impl StorageAccess {
+    pub const LOAD: Self = StorageAccess(1);
+    pub const STORE: Self = StorageAccess(2);
+    pub const ATOMIC: Self = StorageAccess(4);
+}
+
+#[derive(Clone, Copy, Debug, PartialEq, Eq, Hash)]
 pub enum AddressSpace {
     Function,
     Private,
     WorkGroup,
     Uniform,
+    Storage { access: StorageAccess },
     Handle,
     Immediate,
     TaskPayload,
