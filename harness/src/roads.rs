@@ -655,7 +655,7 @@ pub fn argument(ty: Handle<Type>) -> FunctionArgument {
 }
 
 /// So many predeclared types can be told apart.
-const PREDECLARED: usize = 4 * 4 * 256;
+pub const PREDECLARED: usize = 4 * 4 * 256;
 
 /// The predeclared type with this number.
 fn predeclared(number: usize) -> PredeclaredType {

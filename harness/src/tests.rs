@@ -453,6 +453,26 @@ fn the_crate_finds_out_what_is_abstract() {
     assert!(!seen.iter().any(|row| !row.0 && row.1));
 }
 
+/// With all mentions on types there are more than can be told apart; the others take another road.
+#[cfg(published)]
+#[test]
+fn there_are_predeclared_types_for_all_mentions() {
+    use crate::{roads, rust};
+    let mut flat = Flat::default();
+    flat.push(TYPES, &[0, 0, N, N, 0]);
+    for _ in 0..LIMITS[MENTIONS] {
+        flat.push(MENTIONS, &[TYPES as u32, 0]);
+    }
+    flat.fit_rooms();
+    let chosen = roads::choose(&flat, &mut Rng::new(1));
+    let all = chosen
+        .iter()
+        .filter(|road| **road == roads::Road::Predeclared);
+    assert_eq!(all.count(), roads::PREDECLARED);
+    let outcome = rust::run(&flat, false, &chosen, 1);
+    assert!(matches!(outcome, rust::Outcome::Through(..)));
+}
+
 /// What `docs/DIFFERENCES.md` says of the Rust and no flat module can ask.
 #[cfg(published)]
 mod beside_flat_modules {
