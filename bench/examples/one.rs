@@ -1,9 +1,11 @@
-//! Turns of one side alone, for a profiler: `one plain|library none|half|all no|yes|check [TURNS]`.
+//! Turns of one side alone, for a profiler or an emulator that counts instructions. `types` has types alone.
 
 use bench::flat::{Answer, Module};
-use bench::modules::{measured, Sort};
+use bench::modules::{measured, types_alone, Sort};
 use bench::{library, plain};
 use std::hint::black_box;
+
+const USAGE: &str = "one plain|library none|half|all|types no|yes|check [TURNS [RECORDS]]";
 
 fn turn(side: &str, pass: &str, work: &mut Module) -> Answer {
     let (areas, maps) = work.lend();
@@ -18,15 +20,20 @@ fn turn(side: &str, pass: &str, work: &mut Module) -> Answer {
 fn main() {
     let words: Vec<String> = std::env::args().skip(1).collect();
     let [side, sort, pass, ..] = &words[..] else {
-        panic!("one plain|library none|half|all no|yes|check [TURNS]");
+        panic!("{USAGE}");
     };
     let turns = words.get(3).map_or(1, |word| word.parse().expect("turns"));
-    let sort = match sort.as_str() {
-        "none" => Sort::None,
-        "half" => Sort::Half,
-        _ => Sort::All,
-    };
-    let module = measured(sort, pass != "no", 4096).module;
+    let n = words
+        .get(4)
+        .map_or(4096, |word| word.parse().expect("records"));
+    let module = match sort.as_str() {
+        "none" => measured(Sort::None, pass != "no", n),
+        "half" => measured(Sort::Half, pass != "no", n),
+        "all" => measured(Sort::All, pass != "no", n),
+        "types" => types_alone(n),
+        _ => panic!("{USAGE}"),
+    }
+    .module;
     let mut work = module.clone();
     for _ in 0..turns {
         work.restore(&module);

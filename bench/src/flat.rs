@@ -28,7 +28,7 @@ pub const NAMES: [&str; 8] = [
 pub const WIDTHS: [usize; 8] = [5, 4, 4, 3, 11, 1, 1, 2];
 
 /// The most records of each area.
-pub const LIMITS: [usize; 8] = [4096, 4096, 4096, 4096, 4096, 16384, 16384, 4096];
+pub const LIMITS: [usize; 8] = [65536, 65536, 65536, 65536, 65536, 262144, 262144, 65536];
 
 /// The eight areas, lent.
 pub struct Areas<'a> {

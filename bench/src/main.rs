@@ -5,7 +5,7 @@ mod published;
 mod report;
 mod timing;
 
-use bench::flat::Module;
+use bench::flat::{Module, LIMITS, TYPES};
 use bench::modules::Sort;
 use report::Row;
 use std::path::{Path, PathBuf};
@@ -14,13 +14,18 @@ use timing::{Pass, Spread, Turns};
 
 const USAGE: &str = "\
 bench [--turns T] [--records N] [--csv] [--harness PATH]
-    T turns of each (1000); N records in each arena (512, 1024, 2048 and 4096 in turn); CSV instead of tables;
-    the harness's program for the published compactor";
+    T turns of each (1000), fewer of modules above 4096 records by as much as they are larger;
+    N records in each arena, 64 to 65536 in steps of 8 (4096, 16384 and 65536 in turn);
+    CSV instead of tables; the harness's program for the published compactor";
 
 /// Into how many rounds the turns are split.
 const ROUNDS: usize = 10;
 
+/// The most records in each arena that get all the turns.
+const SMALL: usize = 4096;
+
 struct Options {
+    /// Of modules up to [`SMALL`].
     turns: usize,
     /// Records in each arena.
     sizes: Vec<usize>,
@@ -28,10 +33,17 @@ struct Options {
     harness: Option<PathBuf>,
 }
 
+impl Options {
+    /// The turns of modules of a size: a larger one gets fewer, so that each size takes about as long.
+    fn turns_of(&self, n: usize) -> usize {
+        (self.turns * SMALL / n.max(SMALL)).max(1)
+    }
+}
+
 fn options(mut words: impl Iterator<Item = String>) -> Option<Options> {
     let mut options = Options {
         turns: 1000,
-        sizes: vec![512, 1024, 2048, 4096],
+        sizes: vec![SMALL, 4 * SMALL, 16 * SMALL],
         csv: false,
         harness: None,
     };
@@ -50,7 +62,7 @@ fn options(mut words: impl Iterator<Item = String>) -> Option<Options> {
 /// A size that the modules can have.
 fn size(word: &str) -> Option<usize> {
     let n: usize = word.parse().ok()?;
-    ((64..=4096).contains(&n) && n.is_multiple_of(8)).then_some(n)
+    ((64..=LIMITS[TYPES]).contains(&n) && n.is_multiple_of(8)).then_some(n)
 }
 
 /// A row that is being measured.
@@ -98,11 +110,12 @@ fn measure(options: &Options, n: usize) -> Result<Vec<Row>, String> {
     let sorts = [Sort::None, Sort::Half, Sort::All];
     let cases = sorts.map(|sort| Pass::ALL.map(|pass| Case::new(n, sort, pass)));
     let mut cases: Vec<Case> = cases.into_iter().flatten().collect();
-    let rounds = ROUNDS.min(options.turns);
+    let turns = options.turns_of(n);
+    let rounds = ROUNDS.min(turns);
     for round in 0..rounds {
         for case in &mut cases {
-            let turns = (options.turns + round) / rounds;
-            case.add(turns, options.harness.as_deref())?;
+            let share = (turns + round) / rounds;
+            case.add(share, options.harness.as_deref())?;
         }
     }
     Ok(cases.into_iter().map(|case| case.finish(n)).collect())
@@ -119,7 +132,8 @@ fn run(options: &Options) -> Result<(), String> {
     }
     let most = options.sizes.iter().max().copied().unwrap_or(0);
     let largest = rows.iter().filter(|row| row.n == most);
-    println!("{most} records in each arena, {} turns", options.turns);
+    let turns = options.turns_of(most);
+    println!("{most} records in each arena, {turns} turns");
     print!("{}", report::table(largest));
     if options.sizes.len() > 1 {
         println!("\nnanoseconds a record: plain, library, published (library/plain)");

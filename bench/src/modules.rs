@@ -86,6 +86,22 @@ pub fn measured(sort: Sort, keep_unused: bool, n: usize) -> Measured {
     }
 }
 
+/// n types alone, for what dep costs: all but the first sized by the one override, each based on the type before it.
+/// The last one is mentioned, so all live.
+pub fn types_alone(n: usize) -> Measured {
+    assert!(n > 0);
+    let mut module = Module::default();
+    module.areas[TYPES].extend([0, 0, N, N, 0]);
+    for base in 0..n as u32 - 1 {
+        module.areas[TYPES].extend([SIZED, 0, base, 0, base]);
+    }
+    module.areas[OVERRIDES].extend([0, 0, N, 0]);
+    module.areas[MENTIONS].extend([TYPES as u32, n as u32 - 1]);
+    module.fit_maps();
+    let kept = [n as u32, 0, 1, 0, 0, 0, 0];
+    Measured { module, kept }
+}
+
 struct Maker {
     sort: Sort,
     mix: Mix,

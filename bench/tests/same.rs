@@ -243,9 +243,9 @@ fn compare(module: &Module) -> u32 {
         let (areas, maps) = by_library.lend();
         let library_check = library::check(&areas, &maps);
         let library = library::compact(areas, maps, keep_unused);
-        assert_eq!(plain, library, "{}", module.to_text());
-        assert_eq!(plain_check, library_check, "{}", module.to_text());
-        assert!(by_plain == by_library, "{}", module.to_text());
+        assert_eq!(plain, library, "{:.4000}", module.to_text());
+        assert_eq!(plain_check, library_check, "{:.4000}", module.to_text());
+        assert!(by_plain == by_library, "{:.4000}", module.to_text());
         assert!(plain.number == 0 || by_plain == *module);
         number = plain.number;
     }
@@ -294,7 +294,7 @@ fn at_the_limits() {
     for area in 0..8 {
         let mut module = Module::default();
         module.areas[area] = vec![0; LIMITS[area] * WIDTHS[area]];
-        module.maps = std::array::from_fn(|_| vec![7; 4096]);
+        module.maps = std::array::from_fn(|_| vec![7; LIMITS[TYPES]]);
         assert_ne!(compare(&module), 2);
         module.areas[area].extend(vec![0; WIDTHS[area]]);
         assert_eq!(compare(&module), 2);
