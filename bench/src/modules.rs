@@ -25,7 +25,7 @@
 //! - [`Sort::Half`]: half of each arena, at random, record 0 among them. The live constants are named; n mentions
 //!   name the live globals and the live overrides; each live type and each live expression is the type and the init
 //!   of one live global. The dead globals name live records, so that Yes adds them and nothing else. Dead constants
-//!   are named where their type is abstract; other dead records aren't named.
+//!   are named where their type is abstract and one of the first 4,096; other dead records aren't named.
 //! - [`Sort::All`]: all. The constants are named, and each type and each expression is that of one global. With Yes:
 //!   the even mix, all overrides named, n mentions of any records. With No: a global lives by a mention alone, and
 //!   the n mentions go to the n globals, so overrides live by types and expressions alone: the sized mix.
@@ -58,6 +58,10 @@ const OVERRIDE: u32 = 6;
 const COMPOSE: u32 = 8;
 const SAMPLE: u32 = 15;
 const QUERY: u32 = 17;
+
+/// A dead constant is named where its type is abstract and below this: the harness can't tell more unnamed abstract
+/// types apart for the published compactor, and makes the others concrete.
+const ABSTRACT_TYPES: u32 = 4096;
 
 /// The handles of each expression kind in order: type, constant, override, expression, maybe an expression.
 pub const SLOTS: [&str; 34] = [
@@ -309,7 +313,8 @@ impl Maker {
                 ty = self.pick(TYPES, place + 1, live);
             }
             let init = self.pick(EXPRESSIONS, place / 2 + 1, live);
-            let named = live || (self.sort == Sort::Half && self.is_abstract(ty));
+            let by_abstract = self.is_abstract(ty) && ty < ABSTRACT_TYPES;
+            let named = live || (self.sort == Sort::Half && by_abstract);
             let tag = self.tag();
             self.push(CONSTANTS, &[u32::from(named), ty, init, tag]);
         }
