@@ -4,7 +4,7 @@ use crate::closure::{self, Marks};
 use crate::expect::deps;
 use crate::flat::*;
 use crate::generate::large::Turn::{self, Chains, Deps, Edge, Faults, Live, Past};
-use crate::generate::large::{turn, Share};
+use crate::generate::large::{turn, Share, LAST};
 use crate::library::{Lent, Library};
 use crate::maps;
 use crate::run;
@@ -12,8 +12,8 @@ use std::collections::BTreeSet;
 use std::sync::atomic::{AtomicU64, Ordering};
 use std::time::Instant;
 
-/// The run that must catch each one: that of `test.sh`, and no further than so many blocks. In its 60
-/// seconds it gets further; a bound in time would hang on what else the machine does.
+/// The run that must catch each one: that of `test.sh`, and no further than so many blocks, with the first
+/// turns of the large modules among them. A bound in time would hang on what else the machine does.
 const SEED: u64 = 1;
 const BLOCKS: u64 = 176;
 
@@ -333,9 +333,6 @@ const fn large(turn: Turn, name: &'static str, spoil: Spoil) -> Mutant {
         shown_by: Some(turn),
     }
 }
-
-/// The last place of an arena at its limit.
-const LAST: usize = LIMITS[TYPES] - 1;
 
 /// All wrong libraries.
 #[rustfmt::skip]

@@ -21,7 +21,7 @@ pub enum Turn {
     Past,
     /// All five arenas and both pools at their limit, and so much of them kept with No.
     Live(Share),
-    /// Each area at its limit, with a fault in its last record.
+    /// Areas at their limit, with a fault in the last record.
     Faults,
     /// dep that rises at each 256th type up to the limit, and expressions that are just late enough or not.
     Deps,
@@ -93,7 +93,7 @@ fn past(rng: &mut Rng, area: usize) -> (Flat, Foretold) {
 }
 
 /// A module with so many records of one area, all of them kept with either flag, and few others.
-pub fn edge(rng: &mut Rng, area: usize, count: usize) -> Flat {
+fn edge(rng: &mut Rng, area: usize, count: usize) -> Flat {
     let mut maker = Maker {
         flat: Flat::default(),
         rng,
@@ -150,12 +150,12 @@ const FAULTS: [(u32, usize, At, u32); 13] = [
     (6, GLOBALS, At::Word(1), N - 1),
     (6, EXPRESSIONS, At::Run, N - 1),
     (6, MENTIONS, At::Word(1), N - 1),
-    (7, TYPES, At::Run, LAST),
-    (7, EXPRESSIONS, At::Run, LAST),
+    (7, TYPES, At::Run, LAST as u32),
+    (7, EXPRESSIONS, At::Run, LAST as u32),
 ];
 
 /// The last place of an arena at its limit.
-const LAST: u32 = LIMITS[TYPES] as u32 - 1;
+pub const LAST: usize = LIMITS[TYPES] - 1;
 
 #[derive(Clone, Copy)]
 enum At {
