@@ -15,7 +15,7 @@ use std::time::Instant;
 /// The run that must catch each one: that of `test.sh`, and no further than so many blocks, with the first
 /// turns of the large modules among them. A bound in time would hang on what else the machine does.
 const SEED: u64 = 1;
-const BLOCKS: u64 = 176;
+const BLOCKS: u64 = run::FIRST_BLOCKS;
 
 /// A wrong library: what is wrong with it.
 pub struct Mutant {

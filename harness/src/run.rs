@@ -1,4 +1,4 @@
-//! A run: blocks of modules from each generator by turns, until the time is up or two part.
+//! A run: blocks of modules from each generator by turns, the first ones in any case, until the time is up or two part.
 
 #[cfg(published)]
 use crate::compare::as_held;
@@ -8,7 +8,7 @@ use crate::expect::expect_check;
 use crate::flat::*;
 use crate::generate::damaged::{damage, damage_twice};
 use crate::generate::good::{good, nearly, Size};
-use crate::generate::large::large;
+use crate::generate::large::{large, FIRST};
 use crate::generate::small::Small;
 use crate::generate::wild::wild;
 use crate::generate::Foretold;
@@ -52,6 +52,8 @@ const TURNS: [Generator; 11] = [
     Maps,
     Large,
 ];
+/// The blocks of the first rounds, which have what the limits ask for.
+pub const FIRST_BLOCKS: u64 = (FIRST.len() * TURNS.len()) as u64;
 const SMALL_TURNS: u64 = 3;
 const SMALL_BLOCK: u64 = 256;
 
@@ -123,13 +125,14 @@ impl Drop for Done<'_> {
     }
 }
 
-/// Prints a line now and then, and stops the threads when the time is up.
+/// Prints a line now and then, and stops the threads when the time is up and the first blocks are begun.
 fn watch(plan: &Plan, shared: &Shared) {
     let begin = Instant::now();
     let mut told = begin;
     while shared.busy.load(Ordering::SeqCst) > 0 {
         std::thread::sleep(Duration::from_millis(10));
-        if begin.elapsed() >= Duration::from_secs(plan.seconds) {
+        let first = shared.next.load(Ordering::SeqCst) >= FIRST_BLOCKS;
+        if first && begin.elapsed() >= Duration::from_secs(plan.seconds) {
             shared.stop.store(true, Ordering::SeqCst);
         }
         if told.elapsed() >= Duration::from_secs(5) {
