@@ -7,7 +7,7 @@ use std::hint::black_box;
 use std::time::Instant;
 
 /// A kind with one expression.
-const SPLAT: u32 = 10;
+const ACCESS_INDEX: u32 = 10;
 const COMPOSE: u32 = 8;
 const GLOBAL_VARIABLE: u32 = 13;
 
@@ -23,8 +23,8 @@ fn refused(number: u32, n: usize) -> Module {
     [record[0], record[1]] = match number {
         4 => [34, N],
         5 => [GLOBAL_VARIABLE, 0],
-        6 => [SPLAT, n as u32],
-        _ => [SPLAT, place as u32],
+        6 => [ACCESS_INDEX, n as u32],
+        _ => [ACCESS_INDEX, place as u32],
     };
     module
 }
