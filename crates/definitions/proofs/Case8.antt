@@ -2,7 +2,7 @@
 -- Assumes nothing.
 use mathlib.Core.Path.{_≡_, refl, sym, ap, subst, _∙_}
 use mathlib.Core.Bool.{false}
-use mathlib.Core.List.{List, [], _∷_}
+use mathlib.Core.List.{List, []}
 use Prim.Native.Nat.{ℕ, zero, suc, _+_, _*_, _/_, _%_, _≤_, _<_, zero-le}
 use native.Mathlib.Nat.{le-of-suc-le-suc, mul-div-cancel, mul-mod-left, mul-zero, not-suc-le-zero, zero-div, zero-mod}
 use native.Mathlib.Omega.{arith}
@@ -21,10 +21,11 @@ use Rattle.definitions.proofs.ListLaws.{gather-word, length-gather, tot
 use Rattle.definitions.proofs.Accepted.{Accepted, accepts, all-areas}
 use Rattle.definitions.proofs.AcceptedAfter.{refs-held}
 use Rattle.definitions.proofs.Unchanged.{accepted-is}
+use Rattle.definitions.proofs.Worked.{type′}
 
 -- a type with no handles, unnamed, by its tag
 abbrev leaf : ℕ → Words
-leaf tag = 0 ∷ 0 ∷ N ∷ N ∷ tag ∷ []
+leaf tag = type′ 0 0 N N tag
 
 -- n of them, whatever their tags, and nothing else
 abbrev pub leaves : (ℕ → ℕ) → ℕ → Areas

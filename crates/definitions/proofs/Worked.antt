@@ -89,11 +89,11 @@ upTo (suc n) [] = N ∷ upTo n []
 upTo (suc n) (w ∷ ws) = w ∷ upTo n ws
 
 -- a record's tail, by its tag
-tagged : ℕ → Words
+abbrev pub tagged : ℕ → Words
 tagged t = t ∷ []
 
 -- a type: kind, flags, a, b, tag
-type′ : ℕ → ℕ → ℕ → ℕ → ℕ → Words
+abbrev pub type′ : ℕ → ℕ → ℕ → ℕ → ℕ → Words
 type′ k f a b t = k ∷ f ∷ a ∷ b ∷ tagged t
 
 -- a constant or an override: named, type, init, tag
@@ -214,5 +214,5 @@ holds (adjusts h nr v) = sameWords (nr ∷ v ∷ []) (adjustedWords (adjust map7
 
 -- every row of the table holds
 pub worked : T (all holds table)
-unfolding computed holds table begins sameWords map7 adjustedWords rangedWords seen mapsIn refuses keeps withYes withNo either case1 case4 case5 case6 case9 module′ pooled maps room leaf freed literal expression type′ named′ tagged upTo
+unfolding computed holds table begins sameWords map7 adjustedWords rangedWords seen mapsIn refuses keeps withYes withNo either case1 case4 case5 case6 case9 module′ pooled maps room leaf freed literal expression named′ upTo
 worked = tt

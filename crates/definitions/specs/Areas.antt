@@ -89,7 +89,7 @@ allWords s =
 unfoldable pub widths : List ℕ
 widths = eachArena width (1 ∷ 1 ∷ mentionWidth ∷ [])
 
--- "Most records": "areas 0 to 4 and 7 to 65,536 records and both module pools to 262,144 words"
+-- "Most records"; document 02: "Raise areas 0 to 4 and 7 to 65,536 records and both module pools to 262,144 words"
 unfoldable pub limits : List ℕ
 limits = 65536 ∷ 65536 ∷ 65536 ∷ 65536 ∷ 65536 ∷ 262144 ∷ 262144 ∷ 65536 ∷ []
 

@@ -2,7 +2,7 @@
 -- Assumes nothing.
 use mathlib.Core.Path.{_≡_, refl, sym, ap, _∙_}
 use mathlib.Core.List.{List}
-use Prim.Native.Nat.{ℕ, zero, suc, _+_, _/_, _<_, max}
+use Prim.Native.Nat.{ℕ, zero, suc, _+_, _*_, _/_, _≤_, _<_, max}
 use native.Mathlib.Decide.{ℕ-discrete}
 use native.Mathlib.Numerals.{add-one}
 use native.Mathlib.Omega.{arith}
@@ -10,7 +10,7 @@ use lib.ListN.{length, getD, set, length-set}
 use lib.Seq.{getD-set-same, getD-set-other}
 use Rattle.definitions.specs.Areas.{Areas, areaNumber, limit, limits, types}
 use Rattle.definitions.specs.Order.{sizedBy, pastDep}
-use Rattle.tandem.specs.Deps.{depBefore, Level}
+use Rattle.tandem.specs.Deps.{depBefore, Level, Starts}
 
 dep-suc : (s : Areas) (t : ℕ) → max (depBefore s t) (sizedBy s t) ≡ depBefore s (suc t)
 unfolding depBefore pastDep
@@ -21,10 +21,11 @@ dep-suc s (suc t) = refl
 pub dep-more : (s : Areas) (t : ℕ) {d z v : ℕ} → d ≡ depBefore s t → z ≡ sizedBy s t → v ≡ max d z → v ≡ depBefore s (t + 1)
 dep-more s t p q r = rw (add-one t) (cc (dep-suc s t))
 
--- the first level has an entry for the block of every type that the limit allows: none is computed anew
-pub starts-cover : (t : ℕ) → t < limit types → t / 256 < 256
+-- within the limit the first level holds what stands before the block of every type: none is computed anew
+pub starts-cover : (s : Areas) (n : ℕ) (l : List ℕ) → n ≤ limit types → Starts s n l
+    → (t : ℕ) → t < n → getD l (t / 256) 0 ≡ depBefore s (t / 256 * 256)
 unfolding limits areaNumber
-starts-cover t l = omega arith
+starts-cover s n l m w t h = w .entry (t / 256) (omega arith, omega arith)
 
 -- the first k entries stand
 abbrev pub Filled : (ℕ → ℕ) → ℕ → List ℕ → Type 0
