@@ -58,10 +58,12 @@ pub past-sets : (vs l : Words) (i k : ℕ) → i + length vs ≤ k → getD (set
 past-sets [] l i k h = refl
 past-sets (v ∷ vs) l i k h = past-sets vs (set l i v) (suc i) k (omega arith) ∙ getD-set-other l i k v 0 (λ q. omega arith)
 
--- one more store
-pub sets-last : (vs l : Words) (i v : ℕ) → sets l i (vs ++ (v ∷ [])) ≡ set (sets l i vs) (i + length vs) v
-sets-last [] l i v = ap (λ k. set l k v) (sym (add-zero i))
-sets-last (w ∷ vs) l i v = let e : suc i + length vs ≡ i + suc (length vs) = omega arith in sets-last vs (set l i w) (suc i) v ∙ ap (λ k. set (sets (set l i w) (suc i) vs) k v) e
+-- more stores after those
+pub sets-append : (vs us l : Words) (i : ℕ) → sets l i (vs ++ us) ≡ sets (sets l i vs) (i + length vs) us
+sets-append [] us l i = ap (λ k. sets l k us) (sym (add-zero i))
+sets-append (w ∷ vs) us l i =
+    let e : suc i + length vs ≡ i + suc (length vs) = omega arith in
+    sets-append vs us (set l i w) (suc i) ∙ ap (λ k. sets (sets (set l i w) (suc i) vs) k us) e
 
 drop-more : (d n : ℕ) (l m : Words) → drop d l ≡ drop d m → drop (d + n) l ≡ drop (d + n) m
 drop-more d n l m e = sym (drop-drop n d l) ∙ ap (drop n) e ∙ drop-drop n d m

@@ -2,10 +2,10 @@
 ghost use mathlib.Core.Path.{_≡_};
 ghost use mathlib.Core.List.{_∷_, map};
 ghost use Prim.Native.Nat.{_+_, _≤_, _<_};
-ghost use lib.ListN.{length, getD, take, drop, set, replicate};
+ghost use lib.ListN.{length, take, drop, replicate};
 ghost use lib.Seq.{sets};
 ghost use Rattle.definitions.specs.Areas.{N, numbered, width};
-ghost use Rattle.definitions.specs.Slots.{body, tail, slots};
+ghost use Rattle.definitions.specs.Slots.{body, tail, slots, carried};
 ghost use Rattle.definitions.specs.Outcome.{mapOf};
 ghost use Rattle.definitions.specs.MapEntries.{lookup};
 ghost use Rattle.arena.specs.Lent.{given, left, maps};
@@ -25,6 +25,9 @@ use arena::Mention;
 use arena::N;
 use arena::OVERRIDES;
 use arena::Override;
+use arena::SPAN_LENGTH;
+use arena::SPAN_START;
+use arena::TAG;
 use arena::TAIL;
 use arena::TYPES;
 use arena::Type;
@@ -243,11 +246,15 @@ fn adjust_body<'a>(
 
 // A record's tail, which stays: that at `from` is written at `to`.
 fn carry_tail(ws: &mut [u32], from: usize, to: usize)
-    requires { ⌜ (to ≤ from) × (from < length (now ws)) ⌝ }
-    ensures { λ _. ⌜ left ws ≡ set (given ws) to (getD (given ws) from 0) ⌝ }
+    requires { ⌜ (to ≤ from) × (from + length tail ≤ length (now ws)) ⌝ }
+    ensures { λ _. ⌜ left ws ≡ sets (given ws) to (carried (wordsFrom (given ws) from) 0 tail) ⌝ }
 {
-    let tag = ws[from];
-    ws[to] = tag;
+    let start = ws[from + SPAN_START];
+    let length = ws[from + SPAN_LENGTH];
+    let tag = ws[from + TAG];
+    ws[to + SPAN_START] = start;
+    ws[to + SPAN_LENGTH] = length;
+    ws[to + TAG] = tag;
 }
 
 // The record at `from`, of an area whose records have `wide` words, is written, adjusted, at `to`, which is no later.

@@ -22,8 +22,15 @@ use crate::TypeHandle;
 // "no handle"
 pub const N: u32 = 4294967295;
 
-// How many words end each arena's record after those that its kind rules: the tag.
-pub const TAIL: usize = 1;
+// The words that end each arena's record, after those that its kind rules: the span's start and length, the tag.
+pub const SPAN_START: usize = 0;
+
+pub const SPAN_LENGTH: usize = 1;
+
+pub const TAG: usize = 2;
+
+// How many they are.
+pub const TAIL: usize = 3;
 
 // A pool's record is one handle.
 const POOL_WIDTH: usize = 1;
@@ -116,11 +123,11 @@ fn word(area: &[u32], i: usize) -> u32
     0
 }
 
-// A type: kind, flags, a, b, tag.
+// A type: kind, flags, a, b, tail.
 pub struct Type;
 
 impl Type {
-    pub const WIDTH: usize = 5;
+    pub const WIDTH: usize = 4 + TAIL;
 
     pub const LIMIT: usize = RECORD_LIMIT;
 
@@ -177,11 +184,11 @@ impl Type {
     }
 }
 
-// A constant: named, type, init, tag.
+// A constant: named, type, init, tail.
 pub struct Constant;
 
 impl Constant {
-    pub const WIDTH: usize = 4;
+    pub const WIDTH: usize = 3 + TAIL;
 
     pub const LIMIT: usize = RECORD_LIMIT;
 
@@ -230,11 +237,11 @@ impl Constant {
     }
 }
 
-// An override: named, type, init or N, tag.
+// An override: named, type, init or N, tail.
 pub struct Override;
 
 impl Override {
-    pub const WIDTH: usize = 4;
+    pub const WIDTH: usize = 3 + TAIL;
 
     pub const LIMIT: usize = RECORD_LIMIT;
 
@@ -283,11 +290,11 @@ impl Override {
     }
 }
 
-// A global: type, init or N, tag.
+// A global: type, init or N, tail.
 pub struct Global;
 
 impl Global {
-    pub const WIDTH: usize = 3;
+    pub const WIDTH: usize = 2 + TAIL;
 
     pub const LIMIT: usize = RECORD_LIMIT;
 
@@ -328,11 +335,11 @@ impl Global {
     }
 }
 
-// An expression: kind, nine slots, tag.
+// An expression: kind, nine slots, tail.
 pub struct Expression;
 
 impl Expression {
-    pub const WIDTH: usize = 11;
+    pub const WIDTH: usize = 10 + TAIL;
 
     pub const LIMIT: usize = RECORD_LIMIT;
 

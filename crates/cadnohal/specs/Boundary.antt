@@ -16,7 +16,7 @@ use Rattle.cadnohal.specs.declared.RangeAnswer.{RangeAnswer}
 
 -- the number of the boundary's form; it goes up by one where a function's form or meaning changes
 abbrev pub abi : ℕ
-abi = 1
+abi = 2
 
 -- 0 is `KeepUnused::No`, any other word is Yes
 abbrev pub keepWord : ℕ → Bool

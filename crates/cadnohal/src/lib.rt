@@ -17,7 +17,7 @@ use handle_map::Adjusted;
 use handle_map::Ranged;
 
 // `CADNOHAL_ABI` of the header.
-pub const ABI: u32 = 1;
+pub const ABI: u32 = 2;
 
 // `cadnohal_answer`: where a module was refused and why, or how many records of areas 0 to 6 were kept.
 #[repr(C)]

@@ -32,7 +32,7 @@ use text::start;
 use text::words;
 
 // How many records there is room for in each area. With the maps, the text and what `compact` holds the buffers are under 64 KiB.
-const ROOM: usize = 64;
+const ROOM: usize = 56;
 
 // How many words there is room for in each map.
 const MAP_ROOM: usize = 2 * ROOM;

@@ -21,33 +21,33 @@ use Rattle.definitions.proofs.ListLaws.{gather-word, length-gather, tot
 use Rattle.definitions.proofs.Accepted.{Accepted, accepts, all-areas}
 use Rattle.definitions.proofs.AcceptedAfter.{refs-held}
 use Rattle.definitions.proofs.Unchanged.{accepted-is}
-use Rattle.definitions.proofs.Worked.{type′}
+use Rattle.definitions.proofs.Worked.{tailed, type′}
 
--- a type with no handles, unnamed, by its tag
-abbrev leaf : ℕ → Words
-leaf tag = type′ 0 0 N N tag
+-- types with no handles, unnamed, by their spans and tags
+abbrev leaf : (ℕ → ℕ) → (ℕ → ℕ) → (ℕ → ℕ) → ℕ → Words
+leaf starts lengths tags h = type′ 0 0 N N (tailed (starts h) (lengths h) (tags h))
 
--- n of them, whatever their tags, and nothing else
-abbrev pub leaves : (ℕ → ℕ) → ℕ → Areas
-leaves tags n = areasOf (gather always (λ h. leaf (tags h)) n) [] [] [] [] [] [] []
+-- n of them and nothing else
+abbrev pub leaves : (ℕ → ℕ) → (ℕ → ℕ) → (ℕ → ℕ) → ℕ → Areas
+leaves starts lengths tags n = areasOf (gather always (leaf starts lengths tags) n) [] [] [] [] [] [] []
 
-module _ (tags : ℕ → ℕ) (n : ℕ) where
+module _ (starts lengths tags : ℕ → ℕ) (n : ℕ) where
   abbrev s : Areas
-  s = leaves tags n
+  s = leaves starts lengths tags n
 
   types-length : length (s .types) ≡ n * width types
   unfolding width
-  types-length = length-gather always (λ h. leaf (tags h)) n ∙ total-always (width types) n
+  types-length = length-gather always (leaf starts lengths tags) n ∙ total-always (width types) n
 
   types-size : size s types ≡ n
   unfolding size words
   types-size = ap (λ l. l / width types) types-length ∙ mul-div-cancel n (unfold width in lit< tt)
 
   -- each word is the leaf's
-  leaf-word : (h k : ℕ) → h < n → k < width types → word s types h k ≡ getD (leaf (tags h)) k 0
+  leaf-word : (h k : ℕ) → h < n → k < width types → word s types h k ≡ getD (leaf starts lengths tags h) k 0
   unfolding word words width
   leaf-word h k l b =
-      ap (λ j. getD (s .types) (j + k) 0) (sym (total-always (width types) h)) ∙ gather-word always (λ h. leaf (tags h)) h n k 0 tt l b
+      ap (λ j. getD (s .types) (j + k) 0) (sym (total-always (width types) h)) ∙ gather-word always (leaf starts lengths tags) h n k 0 tt l b
 
   -- ---- number 4
 
@@ -152,8 +152,10 @@ module _ (tags : ℕ → ℕ) (n : ℕ) where
       crowded : leb (recordsOf s 0) (getD limits 0 0) ≡ false
       crowded = rw types-records (lt-leb n (limit types) e)
 
--- 65,536 types pass where the types' map has room for them; 65,537 give 2, area 0, record 0, whatever the maps
-pub case8 : (tags : ℕ → ℕ) (maps : List ℕ)
-    → (65536 ≤ getD maps 0 0 → check (leaves tags 65536) maps ≡ accepted) × (check (leaves tags 65537) maps ≡ refused 2 0 0)
+-- 65,536 types pass where the types' map has room for them; 65,537 give 2, area 0, record 0, whatever the maps; whatever spans and tags
+pub case8 : (starts lengths tags : ℕ → ℕ) (maps : List ℕ)
+    → (65536 ≤ getD maps 0 0 → check (leaves starts lengths tags 65536) maps ≡ accepted)
+    × (check (leaves starts lengths tags 65537) maps ≡ refused 2 0 0)
 unfolding limits areaNumber
-case8 tags maps = (λ room. pass tags 65536 maps room (lit≤ tt), give-2 tags 65537 maps (lit< tt))
+case8 starts lengths tags maps =
+    (λ room. pass starts lengths tags 65536 maps room (lit≤ tt), give-2 starts lengths tags 65537 maps (lit< tt))

@@ -71,7 +71,7 @@ namedIn-within P f k (l ∷ ls) e y h =
 
 -- a tail names nothing
 tail-holds : (P : Elem → Type 0) (f : ℕ → ℕ) (k : ℕ) (ls : List Slot) → EachSlot P f k ls → EachSlot P f k (ls ++ tail)
-tail-holds P f k [] e = (tt, tt)
+tail-holds P f k [] e = (tt, (tt, (tt, tt)))
 tail-holds P f k (l ∷ ls) e = (e .0, tail-holds P f (suc k) ls (e .1))
 
 pub append-within : (P : Elem → Type 0) (l m : List Elem) → Within l P → Within m P → Within (l ++ m) P

@@ -67,13 +67,13 @@ words s overrides = s .overrides
 words s globals = s .globals
 words s expressions = s .expressions
 
--- "Record": how many words it has
+-- "Record": how many words it has; document 02: "Every record of areas 0 to 4 [..] gains two words, start and length, before the tag"
 unfoldable pub width : Arena → ℕ
-width types = 5  -- kind, flags, a, b, tag
-width constants = 4  -- named, type, init, tag
-width overrides = 4  -- named, type, init or N, tag
-width globals = 3  -- type, init or N, tag
-width expressions = 11  -- kind, nine slots, tag
+width types = 7  -- kind, flags, a, b, span, tag
+width constants = 6  -- named, type, init, span, tag
+width overrides = 6  -- named, type, init or N, span, tag
+width globals = 5  -- type, init or N, span, tag
+width expressions = 13  -- kind, nine slots, span, tag
 
 -- "area 0 to 4, handle"
 abbrev pub mentionWidth : ℕ

@@ -3,14 +3,14 @@
 use mathlib.Core.Bool.{cond}
 use mathlib.Core.List.{List, [], _∷_, _++_}
 use Prim.Native.Nat.{ℕ, zero, suc}
-use lib.ListN.{getD, replicate}
+use lib.ListN.{length, getD, replicate}
 use lib.Dec.{eqb}
-use Rattle.definitions.specs.Areas.{Arena, types, constants, overrides, globals, expressions, Areas, word}
+use Rattle.definitions.specs.Areas.{Words, Arena, types, constants, overrides, globals, expressions, Areas, word, Elem, at}
 
 -- what a word of a record is
 pub data Slot : Type 0 where
   unused : Slot  -- N
-  free : Slot  -- any word, carried along: a tag
+  free : Slot  -- any word, carried along: of a span, a tag
   below : ℕ → Slot  -- a kind, a flag or a form: a word below this number
   must : Arena → Slot  -- a handle of that arena
   may : Arena → Slot  -- "?": a handle of that arena, or N
@@ -112,9 +112,10 @@ body overrides f = below 2 ∷ must types ∷ may expressions ∷ []  -- named, 
 body globals f = must types ∷ may expressions ∷ []  -- type, init or N
 body expressions f = exprBody (f 0) (formOf f)
 
--- "Tags are the host's own numbers and are only carried along.": how every record ends
+-- how every record ends: document 02's "two words, start and length, [..] carried along unread", the span, then the tag, of document 01's
+-- "Tags are the host's own numbers and are only carried along."
 abbrev pub tail : List Slot
-tail = free ∷ []
+tail = free ∷ free ∷ free ∷ []
 
 -- what each word of a record is, by the words it has
 unfoldable pub slots : Arena → (ℕ → ℕ) → List Slot
@@ -123,3 +124,12 @@ slots a f = body a f ++ tail
 -- what each word of record h is
 unfoldable pub layout : Areas → Arena → ℕ → List Slot
 layout s a h = slots a (word s a h)
+
+-- the words of a record from word k on, as they are
+unfoldable pub carried : (ℕ → ℕ) → ℕ → List Slot → Words
+carried f k [] = []
+carried f k (l ∷ ls) = f k ∷ carried f (suc k) ls
+
+-- an element's tail: its span and its tag
+unfoldable pub tailOf : Areas → Elem → Words
+tailOf s (at a h) = carried (word s a h) (length (body a (word s a h))) tail

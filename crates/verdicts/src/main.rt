@@ -4,19 +4,24 @@
 // c constants, o overrides, g globals, e expressions, m members, k components, q mentions. N is a word.
 // * with a number stands for so many words more that repeat the word before them, + for so many that
 // repeat the record before them. Behind r stand the lengths of the five maps, MAP_ROOM each without it. A
-// line that starts with # is passed over.
+// line that starts with # is passed over. A text of TEXT bytes or more ends with `? does not fit`, with no verdict.
 ghost use Prim.Native.Nat.{_≤_};
 ghost use lib.ListN.{length};
+use arena::Mention;
 use arena::N;
 use arena::least;
 use libc::STDIN_FILENO;
 use libc::STDOUT_FILENO;
 
-// The most words that a module of the input has. With the maps and the text the buffers are under 64 KiB.
-const WORDS: usize = 8200;
+// The most words that a module of the input has: so many mentions, a few more than 4,097. With the maps and the text the buffers are
+// under 64 KiB.
+const WORDS: usize = 4104 * Mention::WIDTH;
 
 // The most words of a map.
 const MAP_ROOM: usize = 64;
+
+// How many bytes of text.
+const TEXT: usize = 24576;
 
 // The letters of the areas, and of the maps.
 const LETTERS: [u8; 9] = [b't', b'c', b'o', b'g', b'e', b'm', b'k', b'q', b'r'];
@@ -243,7 +248,11 @@ fn report_all(text: &[u8]) {
 }
 
 fn main() {
-    let mut text = [0u8; 15360];
+    let mut text = [0u8; TEXT];
     let n = io::read_full(STDIN_FILENO, &mut text);
+    if n == TEXT {
+        io::write_all(STDOUT_FILENO, b"? does not fit\n");
+        return;
+    }
     report_all(&text[..n]);
 }
