@@ -50,7 +50,7 @@ module _ (p : Maps) (b : ℕ) where
       let m : length vs ≡ n = length-record p b f 0 (body a f) ∙ omega (arith, body-length a f) in
       let k : 0 + length (body a f) ≡ n = omega (arith, body-length a f) in
       let past : (j : ℕ) → getD (sets ws to vs) (from + n + (0 + j)) 0 ≡ f (n + j) =
-          λ j. past-sets vs ws to (from + n + (0 + j)) (omega arith) ∙ ap (λ i. getD ws i 0) (omega arith) in
+      λ j. past-sets vs ws to (from + n + (0 + j)) (omega arith) ∙ ap (λ i. getD ws i 0) (omega arith) in
       r
       ∙ ap (λ l. sets l (to + n) (carried (wordsFrom l (from + n)) 0 tail)) q
       ∙ ap₂ (λ i us. sets (sets ws to vs) (to + i) us) (sym m) (same-words (wordsFrom (sets ws to vs) (from + n)) f 0 n tail past)
