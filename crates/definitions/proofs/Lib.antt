@@ -3,6 +3,8 @@ pub mod Computed
 pub mod Worked
 pub mod Case8
 pub mod Demand3
+pub mod Spans
+pub mod Unread
 pub mod Exactly
 pub mod Counts
 pub mod Unchanged

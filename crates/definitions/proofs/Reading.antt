@@ -11,7 +11,7 @@ use lib.ListN.{length, getD, take, drop, length-append, length-take, length-drop
 use borrow.Author.Tests.{ne-eqb, eqb-true, eqb-false}
 use Rattle.definitions.specs.Lists.{gather, total}
 use Rattle.definitions.specs.Areas.{Areas, Arena, Elem, N, Words, at, constants, expressions, globals, overrides, pool, size, types, width, word, words}
-use Rattle.definitions.specs.Slots.{body, typeBody, exprBody, Slot, below, count, exprSlots, fill, formOf, free, layout, may, must, slots, start, tail, typeSlots, unused}
+use Rattle.definitions.specs.Slots.{body, typeBody, exprBody, Slot, below, carried, count, exprSlots, fill, formOf, free, layout, may, must, slots, start, tail, typeSlots, unused}
 use Rattle.definitions.specs.References.{hasRun, namedBy, namedFrom, references, run, span}
 use Rattle.definitions.specs.Refusals.{every, runsBefore, shaped, shapedAt}
 use Rattle.definitions.specs.Numbering.{isKept, moved, newHandle, rank}
@@ -107,6 +107,20 @@ length-slots constants f = refl
 length-slots overrides f = refl
 length-slots globals f = refl
 length-slots expressions f = simp (length-append, length-fill)
+
+-- a body and the tail are the record
+pub body-length : (a : Arena) (f : ℕ → ℕ) → length (body a f) + length tail ≡ width a
+unfolding slots
+body-length a f = sym (length-append (body a f) tail) ∙ length-slots a f
+
+-- words that are the same from word k and from word i on
+pub carried-same : (f g : ℕ → ℕ) (k i : ℕ) (ls : List Slot) → ((j : ℕ) → j < length ls → f (k + j) ≡ g (i + j)) → carried f k ls ≡ carried g i ls
+unfolding carried
+carried-same f g k i [] e = refl
+carried-same f g k i (l ∷ ls) e =
+    let next : (n j : ℕ) → suc n + j ≡ n + suc j = λ n j. omega arith in
+    ap₂ (λ w r. w ∷ r) (ap f (sym (add-zero k)) ∙ e 0 (zero-lt-suc (length ls)) ∙ ap g (add-zero i))
+    (carried-same f g (suc k) (suc i) ls (λ j l. ap f (next k j) ∙ e (suc j) (suc-le-suc l) ∙ ap g (sym (next i j))))
 
 pub width-pos : (a : Arena) → 0 < width a
 unfolding width

@@ -67,7 +67,8 @@ words s overrides = s .overrides
 words s globals = s .globals
 words s expressions = s .expressions
 
--- "Record": how many words it has; document 02: "Every record of areas 0 to 4 [..] gains two words, start and length, before the tag"
+-- "Record": how many words it has; document 02: "Every record of areas 0 to 4, function expressions included, gains two words, start and
+-- length, before the tag", which are its span
 unfoldable pub width : Arena → ℕ
 width types = 7  -- kind, flags, a, b, span, tag
 width constants = 6  -- named, type, init, span, tag

@@ -112,8 +112,8 @@ body overrides f = below 2 ∷ must types ∷ may expressions ∷ []  -- named, 
 body globals f = must types ∷ may expressions ∷ []  -- type, init or N
 body expressions f = exprBody (f 0) (formOf f)
 
--- how every record ends: document 02's "two words, start and length, [..] carried along unread", the span, then the tag, of document 01's
--- "Tags are the host's own numbers and are only carried along."
+-- how every record ends: its span, document 02's "two words, start and length, before the tag; they are carried along unread", and
+-- its tag: "Tags are the host's own numbers and are only carried along."
 abbrev pub tail : List Slot
 tail = free ∷ free ∷ free ∷ []
 

@@ -62,7 +62,7 @@ fitBy s l overrides h = ltb h (l .overrides) && typedFits l false (word s overri
 fitBy s l globals h = false
 fitBy s l expressions h = ltb h (l .expressions)
 
--- is a word good under each of the numbers ? Only the kinds of number 5 have free slots before the tag
+-- is a word good under each of the numbers ? Only the kinds of number 5 have free slots before the tail
 unfoldable pub goodBy : Areas → Limits → Slot → ℕ → Bool
 goodBy s l unused w = eqb w N
 goodBy s l free w = false

@@ -298,7 +298,7 @@ fn typed_good(l: Limits, ws: &[u32], at: usize, ty: usize, init: usize, must: bo
     e < l.expressions
 }
 
-// Are all words of the record that starts at a place good, but its tag ?
+// Are all words of the record that starts at a place good, but those of its tail ?
 pub fn record_good(l: Limits, area: u32, ws: &[u32], at: usize, m: &Module) -> bool
     ensures { λ r. ⌜ r ≡ every (goodBy (areasIn (given m)) l)
         (wordsFrom (given ws) at) 0 (body (numbered area) (wordsFrom (given ws) at)) ⌝ }

@@ -6,20 +6,15 @@ use mathlib.Core.List.{List, [], _∷_, _++_, append-assoc}
 use Prim.Native.Nat.{ℕ, zero, suc, _+_, _≤_}
 use native.Mathlib.Nat.{le-of-suc-le-suc, not-suc-le-zero}
 use native.Mathlib.Omega.{arith}
-use lib.ListN.{length, take, drop, length-append}
+use lib.ListN.{length, take, drop}
 use Rattle.definitions.specs.Areas.{Areas, Arena, Elem, types, constants, overrides, globals, expressions, width, word, pool}
 use Rattle.definitions.specs.Slots.{Slot, unused, free, fill, body, tail, slots}
 use Rattle.definitions.specs.References.{hasRun, span, run, namedBy, namedFrom}
 use Rattle.definitions.specs.Order.{behind, withBehind}
 use Rattle.definitions.specs.Refusals.{every}
-use Rattle.definitions.proofs.Reading.{length-slots}
+use Rattle.definitions.proofs.Reading.{body-length}
 use Rattle.slots.specs.Codes.{packed, unpacked, decoded, codes, spanIn, runIn}
 use Rattle.slots.proofs.Packing.{packed-body}
-
--- a body and the tail are the record
-pub body-length : (a : Arena) (f : ℕ → ℕ) → length (body a f) + length tail ≡ width a
-unfolding slots
-body-length a f = sym (length-append (body a f) tail) ∙ length-slots a f
 
 pub tail-fits : (a : Arena) → length tail ≤ width a
 tail-fits a = omega (arith, body-length a (λ _. 0))

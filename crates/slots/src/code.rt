@@ -6,7 +6,7 @@ pub const BITS: usize = 4;
 
 pub const BASE: u64 = 1 << BITS;
 
-// The words of the longest body: all of an expression's before its tag.
+// The words of the longest body: all of an expression's before its tail.
 pub const WORDS: usize = Expression::WIDTH - TAIL;
 
 // Any word.

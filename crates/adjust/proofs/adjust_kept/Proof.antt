@@ -1,10 +1,9 @@
 -- `adjust::adjust_kept` meets its contract: the tail is read past the words that were written before it.
 -- Assumes nothing.
-use mathlib.Core.Path.{_≡_, refl, sym, ap, ap₂, _∙_}
+use mathlib.Core.Path.{_≡_, sym, ap, ap₂, _∙_}
 use mathlib.Core.List.{List, [], _∷_, _++_}
 use Prim.Native.Nat.{ℕ, suc, _+_, _≤_}
 use native.Mathlib.Nat.{add-zero}
-use native.Mathlib.Numerals.{unary-clauses}
 use native.Mathlib.Omega.{arith}
 use lib.ListN.{length, getD}
 use lib.Seq.{sets}
@@ -13,21 +12,13 @@ use Rattle.definitions.specs.Areas.{Words, Arena, numbered, width}
 use Rattle.definitions.specs.Slots.{Slot, body, tail, slots, carried}
 use Rattle.definitions.specs.Outcome.{Maps}
 use Rattle.slots.specs.Codes.{wordsFrom}
-use Rattle.slots.proofs.Laws.{body-length, tail-fits}
+use Rattle.definitions.proofs.Reading.{body-length, carried-same}
+use Rattle.slots.proofs.Laws.{tail-fits}
 use Rattle.adjust.specs.Rewrite.{adjustedBy, recordFrom}
 use Rattle.adjust.proofs.Stores.{past-sets, sets-append}
 use Rattle.adjust.proofs.Passes.{length-record}
 use Rattle.adjust.proofs.adjust_kept.Statement.{statement}
 use Rattle.adjust.proofs.adjust_kept.Tie as tie
-
--- words that are the same from word k and from word i on
-same-words : (f g : ℕ → ℕ) (k i : ℕ) (ls : List Slot) → ((j : ℕ) → f (k + j) ≡ g (i + j)) → carried f k ls ≡ carried g i ls
-unfolding carried
-same-words f g k i [] e = refl
-same-words f g k i (l ∷ ls) e =
-    let next : (n j : ℕ) → suc n + j ≡ n + suc j = λ n j. omega arith in
-    ap₂ (λ w r. w ∷ r) (simp unary-clauses at (e 0))
-    (same-words f g (suc k) (suc i) ls (λ j. ap f (next k j) ∙ e (suc j) ∙ ap g (sym (next i j))))
 
 module _ (p : Maps) (b : ℕ) where
   -- a record's words, then its tail as it is
@@ -53,7 +44,7 @@ module _ (p : Maps) (b : ℕ) where
       λ j. past-sets vs ws to (from + n + (0 + j)) (omega arith) ∙ ap (λ i. getD ws i 0) (omega arith) in
       r
       ∙ ap (λ l. sets l (to + n) (carried (wordsFrom l (from + n)) 0 tail)) q
-      ∙ ap₂ (λ i us. sets (sets ws to vs) (to + i) us) (sym m) (same-words (wordsFrom (sets ws to vs) (from + n)) f 0 n tail past)
+      ∙ ap₂ (λ i us. sets (sets ws to vs) (to + i) us) (sym m) (carried-same (wordsFrom (sets ws to vs) (from + n)) f 0 n tail (λ j b. past j))
       ∙ sym (sets-append vs (carried f n tail) ws to)
       ∙ ap (sets ws to) (sym (record-tail f 0 (body a f) ∙ ap (λ i. vs ++ carried f i tail) k))
 
