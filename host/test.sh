@@ -26,7 +26,8 @@ mkdir -p "$out/other"
 CADNOHAL_LIB_DIR="$PWD/$out/other" cargo build --offline --release --quiet --manifest-path host/Cargo.toml --target-dir "$out/other"
 status=0
 line=$($start "$out/other/${release#target/}/cadnohal" check examples/beamformer.txt 2>&1) || status=$?
-[ "$status: $line" = "3: cadnohal: the library's ABI is 0, this program's is 1" ] || { echo "over another library: '$status: $line'"; exit 1; }
+abi=$(sed -n 's/^#define CADNOHAL_ABI //p' include/cadnohal.h)
+[ "$status: $line" = "3: cadnohal: the library's ABI is 0, this program's is $abi" ] || { echo "over another library: '$status: $line'"; exit 1; }
 for module in examples/*.txt; do
     $start "host/$release/cadnohal" compact "$module" >"$out/once.txt"
     $start "host/$release/cadnohal" compact "$out/once.txt" >"$out/twice.txt"

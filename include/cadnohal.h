@@ -14,17 +14,21 @@
  *
  * The areas, in this order. A record is so many words; a handle is a record's place in its area, from 0.
  *
- *   0 types        kind, flags, a, b, tag                 at most  65536 records
- *   1 constants    named, type, init, tag                          65536
- *   2 overrides    named, type, init or N, tag                     65536
- *   3 globals      type, init or N, tag                            65536
- *   4 expressions  kind, nine slots, tag                           65536
- *   5 members      one type handle                                262144
- *   6 components   one expression handle                          262144
- *   7 mentions     area 0 to 4, handle                             65536
+ *   0 types        kind, flags, a, b, start, length, tag            at most  65536 records
+ *   1 constants    named, type, init, start, length, tag                     65536
+ *   2 overrides    named, type, init or N, start, length, tag                65536
+ *   3 globals      type, init or N, start, length, tag                       65536
+ *   4 expressions  kind, nine slots, start, length, tag                      65536
+ *   5 members      one type handle                                          262144
+ *   6 components   one expression handle                                    262144
+ *   7 mentions     area 0 to 4, handle                                       65536
+ *
+ * Start, length and tag are the host's own: any words, carried along unread. Start and length are the record's span,
+ * such as where in the generator's text the element stands, so that a refused record leads to its line. Those of a
+ * dropped record become N with its other words.
  *
  * Each of areas 0 to 4 has a map of at least as many words as it has records. With every area at its limit the thirteen
- * slices are 10.5 MiB.
+ * slices are 13 MiB.
  *
  * The mentions are what functions, entry points and special types name; each is a root, whatever the flag. The Rust
  * with KeepUnused::No traces only the entry points and the functions that calls reach from them, with Yes every
@@ -58,11 +62,11 @@
 extern "C" {
 #endif
 
-/* The form of this boundary: it goes up by one where a function's form or meaning changes. */
-#define CADNOHAL_ABI 1
+/* The form of this boundary: it goes up by one where a function's form or meaning, or a record's form, changes. */
+#define CADNOHAL_ABI 2
 
 /* The version of this header and of the Rust crate. */
-#define CADNOHAL_VERSION "0.1.0"
+#define CADNOHAL_VERSION "0.2.0"
 
 /* The CADNOHAL_ABI that the archive was built with. Header and archive belong together where the two are equal: ask
  * once, before the first call of any other function, whose arguments are read wrongly where they are not. */
@@ -74,6 +78,20 @@ uint32_t cadnohal_abi(void);
 
 /* "No handle". */
 #define CADNOHAL_N 4294967295u
+
+/* How many words a record has; one of a pool has one. */
+#define CADNOHAL_TYPE_WIDTH 7
+#define CADNOHAL_CONSTANT_WIDTH 6
+#define CADNOHAL_OVERRIDE_WIDTH 6
+#define CADNOHAL_GLOBAL_WIDTH 5
+#define CADNOHAL_EXPRESSION_WIDTH 13
+#define CADNOHAL_MENTION_WIDTH 2
+
+/* How far before the end of a record of areas 0 to 4 its span and its tag stand. The start of type r is
+ * types[(r + 1) * CADNOHAL_TYPE_WIDTH - CADNOHAL_SPAN_START]. */
+#define CADNOHAL_SPAN_START 3
+#define CADNOHAL_SPAN_LENGTH 2
+#define CADNOHAL_TAG 1
 
 /* Accepted: number, area and record are 0, and the counts are the kept records of areas 0 to 6.
  * Refused: number 1 to 7 and where the fault is; for 1 to 3 the record is 0. The counts are 0. */

@@ -10,11 +10,15 @@
 
 int main(void)
 {
-    uint32_t types[] = {0, 0, N, N, 10, 2, 1, 0, 0, 11};
-    uint32_t overrides[] = {0, 0, 1, 0};
+    /* The last three words of a record are its span, left 0 here, and its tag. */
+    uint32_t types[] = {
+        0, 0, N, N, 0, 0, 10,
+        2, 1, 0, 0, 0, 0, 11,
+    };
+    uint32_t overrides[] = {0, 0, 1, 0, 0, 0};
     uint32_t expressions[] = {
-        0, N, N, N, N, N, N, N, N, N, 20,
-        0, N, N, N, N, N, N, N, N, N, 21,
+        0, N, N, N, N, N, N, N, N, N, 0, 0, 20,
+        0, N, N, N, N, N, N, N, N, N, 0, 0, 21,
     };
     uint32_t type_map[2], override_map[1], expression_map[2];
 

@@ -6,7 +6,8 @@
 
 #define N CADNOHAL_N
 #define LENGTH(words) (sizeof(words) / sizeof((words)[0]))
-#define EXPRESSION(kind, a, b, c, tag) kind, a, b, c, N, N, N, N, N, N, tag
+#define TAIL(tag) N - (tag), (tag) * 100, tag
+#define EXPRESSION(kind, a, b, c, tag) kind, a, b, c, N, N, N, N, N, N, TAIL(tag)
 
 static unsigned asked, broken;
 
@@ -21,18 +22,19 @@ static void hold(int kept, const char *promise)
 
 /* A module with every area and map, small enough to compare word by word. */
 typedef struct {
-    uint32_t types[15], constants[4], overrides[4], globals[3], expressions[33];
-    uint32_t members[2], components[1], mentions[2];
+    uint32_t types[3 * CADNOHAL_TYPE_WIDTH], constants[CADNOHAL_CONSTANT_WIDTH], overrides[CADNOHAL_OVERRIDE_WIDTH];
+    uint32_t globals[CADNOHAL_GLOBAL_WIDTH], expressions[3 * CADNOHAL_EXPRESSION_WIDTH];
+    uint32_t members[2], components[1], mentions[CADNOHAL_MENTION_WIDTH];
     uint32_t type_map[4], constant_map[2], override_map[2], global_map[2], expression_map[4];
 } module;
 
 /* Type 0 a leaf, type 1 an array sized by override 0, type 2 a struct of both; expression 0 a literal, 1 the constant,
  * 2 a compose of it; the mention names expression 2. Map words are 7, one more than there are records. */
 static const module GOOD = {
-    {0, 0, N, N, 10, 2, 0, 0, 0, 11, 3, 1, 0, 2, 12},
-    {0, 0, 0, 20},
-    {1, 0, 0, 30},
-    {0, N, 40},
+    {0, 0, N, N, TAIL(10), 2, 0, 0, 0, TAIL(11), 3, 1, 0, 2, TAIL(12)},
+    {0, 0, 0, TAIL(20)},
+    {1, 0, 0, TAIL(30)},
+    {0, N, TAIL(40)},
     {EXPRESSION(0, N, N, N, 50), EXPRESSION(5, 0, N, N, 51), EXPRESSION(8, 0, 0, 1, 52)},
     {0, 1},
     {1},
@@ -46,10 +48,10 @@ static const module GOOD = {
 
 /* What No leaves of it: type 0, the constant, the three expressions and the component. */
 static const module AFTER_NO = {
-    {0, 0, N, N, 10, N, N, N, N, N, N, N, N, N, N},
-    {0, 0, 0, 20},
-    {N, N, N, N},
-    {N, N, N},
+    {0, 0, N, N, TAIL(10), N, N, N, N, N, N, N, N, N, N, N, N, N, N},
+    {0, 0, 0, TAIL(20)},
+    {N, N, N, N, N, N},
+    {N, N, N, N, N},
     {EXPRESSION(0, N, N, N, 50), EXPRESSION(5, 0, N, N, 51), EXPRESSION(8, 0, 0, 1, 52)},
     {N, N},
     {1},
@@ -66,13 +68,13 @@ typedef struct {
     size_t types, overrides, mentions, type_map, expression_map;
 } lengths;
 
-static const lengths WHOLE = {15, 4, 2, 4, 4};
+static const lengths WHOLE = {LENGTH(GOOD.types), LENGTH(GOOD.overrides), LENGTH(GOOD.mentions), 4, 4};
 
 static cadnohal_answer compact(module *m, lengths n, uint32_t keep_unused)
 {
     return cadnohal_compact(
-        m->types, n.types, m->constants, 4, m->overrides, n.overrides, m->globals, 3, m->expressions, 33,
-        m->members, 2, m->components, 1, m->mentions, n.mentions,
+        m->types, n.types, m->constants, LENGTH(m->constants), m->overrides, n.overrides, m->globals, LENGTH(m->globals),
+        m->expressions, LENGTH(m->expressions), m->members, 2, m->components, 1, m->mentions, n.mentions,
         m->type_map, n.type_map, m->constant_map, 2, m->override_map, 2, m->global_map, 2,
         m->expression_map, n.expression_map, keep_unused);
 }
@@ -80,8 +82,8 @@ static cadnohal_answer compact(module *m, lengths n, uint32_t keep_unused)
 static cadnohal_answer check(const module *m, lengths n)
 {
     return cadnohal_check(
-        m->types, n.types, m->constants, 4, m->overrides, n.overrides, m->globals, 3, m->expressions, 33,
-        m->members, 2, m->components, 1, m->mentions, n.mentions,
+        m->types, n.types, m->constants, LENGTH(m->constants), m->overrides, n.overrides, m->globals, LENGTH(m->globals),
+        m->expressions, LENGTH(m->expressions), m->members, 2, m->components, 1, m->mentions, n.mentions,
         m->type_map, n.type_map, m->constant_map, 2, m->override_map, 2, m->global_map, 2,
         m->expression_map, n.expression_map);
 }
@@ -123,12 +125,44 @@ static void accepted(void)
                                 NULL, 0, NULL, 0, NULL, 0, NULL, 0), zero), "and in check");
 }
 
+/* Another span in each of count records. */
+static void set_spans(uint32_t *records, size_t width, size_t count, const uint32_t span[2])
+{
+    for (uint32_t *end = records + width; count > 0; count--, end += width) {
+        end[-CADNOHAL_SPAN_START] = span[0];
+        end[-CADNOHAL_SPAN_LENGTH] = span[1];
+    }
+}
+
+/* A span is any two words: they decide nothing, and the kept records have them afterwards. */
+static void spans(void)
+{
+    static const uint32_t words[][2] = {{0, 0}, {N, N}, {N, 0}, {0, N}, {4, 34}, {N - 1, 1u << 31}};
+    static const uint32_t kept_no[10] = {0, 0, 0, 1, 1, 0, 0, 3, 0, 1};
+    for (size_t i = 0; i < LENGTH(words); i++) {
+        module m = GOOD, want = AFTER_NO;
+        set_spans(m.types, CADNOHAL_TYPE_WIDTH, 3, words[i]);
+        set_spans(m.constants, CADNOHAL_CONSTANT_WIDTH, 1, words[i]);
+        set_spans(m.overrides, CADNOHAL_OVERRIDE_WIDTH, 1, words[i]);
+        set_spans(m.globals, CADNOHAL_GLOBAL_WIDTH, 1, words[i]);
+        set_spans(m.expressions, CADNOHAL_EXPRESSION_WIDTH, 3, words[i]);
+        set_spans(want.types, CADNOHAL_TYPE_WIDTH, 1, words[i]);
+        set_spans(want.constants, CADNOHAL_CONSTANT_WIDTH, 1, words[i]);
+        set_spans(want.expressions, CADNOHAL_EXPRESSION_WIDTH, 3, words[i]);
+        hold(answers(compact(&m, WHOLE, 0), kept_no), "spans decide nothing");
+        hold(memcmp(&m, &want, sizeof m) == 0, "kept records keep their spans, dropped ones' are N");
+    }
+    const uint32_t *second = GOOD.types + 2 * CADNOHAL_TYPE_WIDTH;
+    hold(second[-CADNOHAL_SPAN_START] == N - 11 && second[-CADNOHAL_SPAN_LENGTH] == 1100 && second[-CADNOHAL_TAG] == 11,
+         "the places of span and tag");
+}
+
 static void refusals(void)
 {
-    static uint32_t many[65537 * 2];
+    static uint32_t many[65537 * CADNOHAL_MENTION_WIDTH];
     module m = GOOD;
     lengths n = WHOLE;
-    n.types = 14;
+    n.types--;
     refused(m, n, 1, 0, 0, "number 1");
     n = WHOLE;
     n.expression_map = 2;
@@ -136,11 +170,11 @@ static void refusals(void)
     m.types[0] = 4;
     refused(m, WHOLE, 4, 0, 0, "number 4, a kind");
     m = GOOD;
-    m.expressions[22] = 13;
+    m.expressions[2 * CADNOHAL_EXPRESSION_WIDTH] = 13;
     m.components[0] = 0;
     refused(m, WHOLE, 4, 6, 0, "number 4, a pool longer than its runs, before number 5");
     m = GOOD;
-    m.expressions[11] = 27;
+    m.expressions[CADNOHAL_EXPRESSION_WIDTH] = 27;
     refused(m, WHOLE, 5, 4, 1, "number 5");
     m = GOOD;
     m.members[1] = 3;
@@ -156,16 +190,18 @@ static void refusals(void)
 /* A module of slices that all differ in length, the maps exactly as long as they must be: where two of the thirteen
  * are exchanged it is refused. With No type 2, expressions 3 and 4 and all globals but one go. */
 typedef struct {
-    uint32_t types[15], constants[8], overrides[4], globals[18], expressions[55];
-    uint32_t members[7], components[9], mentions[10];
-    uint32_t type_map[3], constant_map[2], override_map[1], global_map[6], expression_map[5];
+    uint32_t types[3 * CADNOHAL_TYPE_WIDTH], constants[2 * CADNOHAL_CONSTANT_WIDTH], overrides[CADNOHAL_OVERRIDE_WIDTH];
+    uint32_t globals[8 * CADNOHAL_GLOBAL_WIDTH], expressions[5 * CADNOHAL_EXPRESSION_WIDTH];
+    uint32_t members[7], components[9], mentions[5 * CADNOHAL_MENTION_WIDTH];
+    uint32_t type_map[3], constant_map[2], override_map[1], global_map[8], expression_map[5];
 } distinct;
 
 static const distinct EACH = {
-    {0, 0, N, N, 10, 2, 0, 0, 0, 11, 3, 0, 0, 7, 12},
-    {0, 0, 0, 20, 1, 0, 0, 21},
-    {0, 0, 0, 30},
-    {0, N, 40, 1, N, 41, 2, N, 42, 0, 0, 43, 0, N, 44, 0, N, 45},
+    {0, 0, N, N, TAIL(10), 2, 0, 0, 0, TAIL(11), 3, 0, 0, 7, TAIL(12)},
+    {0, 0, 0, TAIL(20), 1, 0, 0, TAIL(21)},
+    {0, 0, 0, TAIL(30)},
+    {0, N, TAIL(40), 1, N, TAIL(41), 2, N, TAIL(42), 0, 0, TAIL(43), 0, N, TAIL(44), 0, N, TAIL(45), 0, N, TAIL(46),
+     0, N, TAIL(47)},
     {EXPRESSION(0, N, N, N, 50), EXPRESSION(5, 0, N, N, 51), EXPRESSION(8, 0, 0, 4, 52), EXPRESSION(8, 0, 4, 5, 53),
      EXPRESSION(0, N, N, N, 54)},
     {0, 0, 1, 0, 1, 0, 0},
@@ -174,11 +210,12 @@ static const distinct EACH = {
     {7, 7, 7},
     {7, 7},
     {7},
-    {7, 7, 7, 7, 7, 7},
+    {7, 7, 7, 7, 7, 7, 7, 7},
     {7, 7, 7, 7, 7},
 };
 
-#define SLICE(array) {array, LENGTH(array)}
+#define IN_FULL(array) array, LENGTH(array)
+#define SLICE(array) {IN_FULL(array)}
 
 static cadnohal_module by_name(distinct *d)
 {
@@ -207,16 +244,18 @@ static uint32_t alike(distinct d, uint32_t keep_unused, const char *promise)
     distinct full = d;
     const cadnohal_module m = by_name(&d);
     cadnohal_answer a = cadnohal_check(
-        full.types, 15, full.constants, 8, full.overrides, 4, full.globals, 18, full.expressions, 55, full.members, 7,
-        full.components, 9, full.mentions, 10, full.type_map, 3, full.constant_map, 2, full.override_map, 1,
-        full.global_map, 6, full.expression_map, 5);
+        IN_FULL(full.types), IN_FULL(full.constants), IN_FULL(full.overrides), IN_FULL(full.globals),
+        IN_FULL(full.expressions), IN_FULL(full.members), IN_FULL(full.components), IN_FULL(full.mentions),
+        IN_FULL(full.type_map), IN_FULL(full.constant_map), IN_FULL(full.override_map), IN_FULL(full.global_map),
+        IN_FULL(full.expression_map));
     cadnohal_answer b = cadnohal_check_module(&m);
     hold(memcmp(&a, &b, sizeof a) == 0, promise);
     hold(memcmp(&d, &before, sizeof d) == 0, promise);
     a = cadnohal_compact(
-        full.types, 15, full.constants, 8, full.overrides, 4, full.globals, 18, full.expressions, 55, full.members, 7,
-        full.components, 9, full.mentions, 10, full.type_map, 3, full.constant_map, 2, full.override_map, 1,
-        full.global_map, 6, full.expression_map, 5, keep_unused);
+        IN_FULL(full.types), IN_FULL(full.constants), IN_FULL(full.overrides), IN_FULL(full.globals),
+        IN_FULL(full.expressions), IN_FULL(full.members), IN_FULL(full.components), IN_FULL(full.mentions),
+        IN_FULL(full.type_map), IN_FULL(full.constant_map), IN_FULL(full.override_map), IN_FULL(full.global_map),
+        IN_FULL(full.expression_map), keep_unused);
     b = cadnohal_compact_module(&m, keep_unused);
     hold(memcmp(&a, &b, sizeof a) == 0, promise);
     hold(memcmp(&d, &full, sizeof d) == 0, promise);
@@ -305,6 +344,7 @@ int main(void)
 {
     hold(cadnohal_abi() == CADNOHAL_ABI, "header and archive belong together");
     accepted();
+    spans();
     refusals();
     named();
     maps();

@@ -16,7 +16,10 @@
 #define ARENAS 5
 #define SLICES (AREAS + ARENAS)
 
-static const size_t WIDTH[AREAS] = {5, 4, 4, 3, 11, 1, 1, 2};
+static const size_t WIDTH[AREAS] = {
+    CADNOHAL_TYPE_WIDTH, CADNOHAL_CONSTANT_WIDTH, CADNOHAL_OVERRIDE_WIDTH, CADNOHAL_GLOBAL_WIDTH,
+    CADNOHAL_EXPRESSION_WIDTH, 1, 1, CADNOHAL_MENTION_WIDTH,
+};
 static const size_t LIMIT[AREAS] = {MOST, MOST, MOST, MOST, MOST, 4 * MOST, 4 * MOST, MOST};
 
 static unsigned asked, broken;
@@ -73,6 +76,9 @@ static void push(module *m, size_t area, const uint32_t *words, size_t count)
 #define PUSH(m, area, ...) \
     push(m, area, (const uint32_t[]){__VA_ARGS__}, sizeof((const uint32_t[]){__VA_ARGS__}) / sizeof(uint32_t))
 
+/* The tail of record me: no two have the same, and of the first the span is N and 0. */
+#define TAIL(me) N - (me), (me) * 0x9e3779b9u, me
+
 /* count records in each arena, and four words a record in each pool, that refer to one another only; count is even. Of
  * types and expressions every other has a run of eight older ones, the types between are sized by overrides. */
 static void fill(module *m, uint32_t count, uint32_t named)
@@ -81,22 +87,22 @@ static void fill(module *m, uint32_t count, uint32_t named)
     for (uint32_t i = 0; i < count; i++) {
         const uint32_t me = at + i, sized = i != 0 && i % 2 == 0;
         if (i == 0) {
-            PUSH(m, 0, 0, named, N, N, i);
-            PUSH(m, 4, 0, N, N, N, N, N, N, N, N, N, i);
+            PUSH(m, 0, 0, named, N, N, TAIL(me));
+            PUSH(m, 4, 0, N, N, N, N, N, N, N, N, N, TAIL(me));
         } else if (sized) {
-            PUSH(m, 0, 2, named, me - 1, me, i);
-            PUSH(m, 4, 6, me, N, N, N, N, N, N, N, N, i);
+            PUSH(m, 0, 2, named, me - 1, me, TAIL(me));
+            PUSH(m, 4, 6, me, N, N, N, N, N, N, N, N, TAIL(me));
         } else {
-            PUSH(m, 0, 3, named, (uint32_t)m->by_name.members.length, 8, i);
-            PUSH(m, 4, 8, me, (uint32_t)m->by_name.components.length, 8, N, N, N, N, N, N, i);
+            PUSH(m, 0, 3, named, (uint32_t)m->by_name.members.length, 8, TAIL(me));
+            PUSH(m, 4, 8, me, (uint32_t)m->by_name.components.length, 8, N, N, N, N, N, N, TAIL(me));
             for (uint32_t k = 0; k < 8; k++) {
                 PUSH(m, 5, at + (i * 7 + k * 13) % i);
                 PUSH(m, 6, at + (i * 7 + k * 13) % i);
             }
         }
-        PUSH(m, 1, named, me, me, i);
-        PUSH(m, 2, named, at, sized ? me - 1 : N, i);
-        PUSH(m, 3, me, me, i);
+        PUSH(m, 1, named, me, me, TAIL(me));
+        PUSH(m, 2, named, at, sized ? me - 1 : N, TAIL(me));
+        PUSH(m, 3, me, me, TAIL(me));
     }
 }
 
@@ -249,7 +255,27 @@ static void refused(uint32_t number, uint32_t area, uint32_t record, const char 
     }
 }
 
-/* What both forms of a pass over the module before keep; every arena keeps as many, and the pools four times that. */
+/* Whether an arena has the tails of the last so many records before, and N in the records after them. */
+static int moved(size_t arena, size_t records)
+{
+    const size_t width = WIDTH[arena], dropped = MOST - records;
+    const uint32_t *old = before.at[arena].words + dropped * width, *now_at = after.at[arena].words;
+    for (size_t end = width; end <= records * width; end += width) {
+        const size_t tail = end - CADNOHAL_SPAN_START;
+        if (memcmp(now_at + tail, old + tail, CADNOHAL_SPAN_START * sizeof *old) != 0) {
+            return 0;
+        }
+    }
+    for (size_t word = records * width; word < MOST * width; word++) {
+        if (now_at[word] != N) {
+            return 0;
+        }
+    }
+    return 1;
+}
+
+/* What both forms of a pass over the module before keep, the last records of each arena, as many in each, and four times
+ * as many words of the pools. */
 static void kept(uint32_t keep_unused, uint32_t records, const char *promise)
 {
     const cadnohal_answer want = {0, 0, 0, records, records, records, records, records, 4 * records, 4 * records};
@@ -258,6 +284,9 @@ static void kept(uint32_t keep_unused, uint32_t records, const char *promise)
         copy(&after, &before);
         const cadnohal_answer a = call(form, &after, keep_unused);
         hold(memcmp(&a, &want, sizeof a) == 0, promise, form);
+        for (size_t i = 0; i < ARENAS; i++) {
+            hold(moved(i, records), promise, i);
+        }
         for (size_t i = 0; records == MOST && i < AREAS; i++) {
             hold(memcmp(after.at[i].words, before.at[i].words, room(i) * sizeof(uint32_t)) == 0, promise, i);
         }
@@ -307,7 +336,7 @@ static void changed(size_t slice, size_t word, uint32_t value, uint32_t number, 
 static void huge(void)
 {
     static const module none;
-    const size_t words = ((size_t)1 << 32) + 11;
+    const size_t most_words = (size_t)1 << 32, words = most_words + CADNOHAL_EXPRESSION_WIDTH;
     void *mapped = mmap(NULL, words * sizeof(uint32_t), PROT_READ, MAP_PRIVATE | MAP_ANONYMOUS | MAP_NORESERVE, -1, 0);
     if (mapped == MAP_FAILED) {
         perror("limits");
@@ -316,7 +345,7 @@ static void huge(void)
     for (uint32_t area = 0; area < AREAS; area++) {
         module m = none;
         m.at[area].words = mapped;
-        m.at[area].length = (words - 11 + WIDTH[area] - 1) / WIDTH[area] * WIDTH[area];
+        m.at[area].length = (most_words + WIDTH[area] - 1) / WIDTH[area] * WIDTH[area];
         hold(answers(call(CHECK, &m, 0), 2, area, 0), "number 2 far past the limit", area);
         hold(answers(call(COMPACT, &m, 1), 2, area, 0), "number 2 far past the limit", area);
         if (WIDTH[area] > 1) {
@@ -333,7 +362,7 @@ int main(void)
     for (size_t i = 0; i < SLICES; i++) {
         sum += (i < AREAS ? LIMIT[i] * WIDTH[i] : MOST) * sizeof(uint32_t);
     }
-    hold(sum == 21 * (1 << 20) / 2, "the slices at their limits are 10.5 MiB", sum);
+    hold(sum == 13 * (1 << 20), "the slices at their limits are 13 MiB", sum);
     hold(call(ABI, &before, 0).number == CADNOHAL_ABI, "header and archive belong together", ABI);
 
     before = empty();
@@ -342,10 +371,11 @@ int main(void)
     finish(&before, 0, MOST);
     kept(1, MOST, "all kept at the limits");
     lengths();
-    changed(0, MOST * 5 - 5, 4, 4, 0, MOST - 1);
-    changed(0, MOST * 5 - 2, 9, 4, 0, MOST - 1);
-    changed(0, MOST * 5 - 2, 7, 4, 5, 0);
-    changed(4, MOST * 11 - 22, 27, 5, 4, MOST - 2);
+    const size_t last_type = (MOST - 1) * CADNOHAL_TYPE_WIDTH;
+    changed(0, last_type, 4, 4, 0, MOST - 1);
+    changed(0, last_type + 3, 9, 4, 0, MOST - 1);
+    changed(0, last_type + 3, 7, 4, 5, 0);
+    changed(4, (MOST - 2) * CADNOHAL_EXPRESSION_WIDTH, 27, 5, 4, MOST - 2);
     changed(6, 4 * MOST - 1, MOST, 6, 4, MOST - 1);
     changed(6, 4 * MOST - 1, MOST - 1, 7, 4, MOST - 1);
     changed(7, MOST * 2 - 1, MOST, 6, 7, MOST - 1);

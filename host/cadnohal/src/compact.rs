@@ -130,13 +130,16 @@ impl Module {
     /// second pass is refused with 4 or 6, since N is no good record.
     ///
     /// ```
-    /// use cadnohal::{Expression, ExpressionHandle, KeepUnused, Module, Override, Type, TypeInner, N};
+    /// use cadnohal::{
+    ///     Expression, ExpressionHandle, KeepUnused, Module, Override, Span, Type, TypeInner, N,
+    /// };
     ///
     /// let mut module = Module::new();
     /// let base = module.add_type(Type::new(TypeInner::Leaf, 10));
-    /// module.add_expression(Expression::Literal, 20);
-    /// let init = module.add_expression(Expression::Literal, 21);
-    /// let length = Override { named: false, ty: base, init: Some(init), tag: 0 };
+    /// module.add_expression(Expression::Literal, Span { start: 30, length: 1 }, 20);
+    /// let span = Span { start: 45, length: 2 };
+    /// let init = module.add_expression(Expression::Literal, span, 21);
+    /// let length = Override { named: false, ty: base, init: Some(init), span, tag: 0 };
     /// let size = module.add_override(length);
     /// module.add_type(Type::new(TypeInner::Pending { base, size }, 11).named());
     ///
@@ -144,11 +147,11 @@ impl Module {
     /// assert_eq!(compacted.counts.to_array(), [2, 0, 1, 0, 1, 0, 0]);
     /// assert_eq!(compacted.maps.expressions.words(), [N, 0]);
     /// assert_eq!(compacted.maps.expressions.get(init), Some(ExpressionHandle(0)));
-    /// assert_eq!(module.expressions.len(), 22);
+    /// assert_eq!(module.expressions.len(), 26);
     ///
     /// module.truncate(&compacted.counts);
-    /// assert_eq!(module.expressions, [0, N, N, N, N, N, N, N, N, N, 21]);
-    /// assert_eq!(module.overrides, [0, 0, 0, 0]);
+    /// assert_eq!(module.expressions, [0, N, N, N, N, N, N, N, N, N, 45, 2, 21]);
+    /// assert_eq!(module.overrides, [0, 0, 0, 45, 2, 0]);
     /// assert_eq!(module.compact(KeepUnused::Yes)?.counts, compacted.counts);
     /// # Ok::<(), cadnohal::Refusal>(())
     /// ```

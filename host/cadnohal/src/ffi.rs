@@ -4,7 +4,7 @@ use crate::compact::Counts;
 use std::{ops::Range, sync::OnceLock};
 
 /// The form of the C boundary that this crate calls: `CADNOHAL_ABI` of the header that it goes by.
-pub const ABI: u32 = 1;
+pub const ABI: u32 = 2;
 
 /// `cadnohal_answer`: number and place of a refusal, or three zeros and the seven counts.
 #[repr(C)]
@@ -186,7 +186,7 @@ pub(crate) fn adjust_range(map: &[u32], range: &Range<u32>) -> Result<Range<u32>
 #[cfg(test)]
 mod tests {
     use super::*;
-    use crate::kinds::N;
+    use crate::kinds::{Area, N};
     use std::{
         mem::size_of,
         ptr::{null, null_mut},
@@ -262,7 +262,7 @@ mod tests {
     #[test]
     fn any_keep_word_but_0_is_yes() {
         for (keep_unused, kept) in [(0, 0), (1, 1), (2, 1), (256, 1), (1 << 31, 1), (N, 1)] {
-            let mut types = [0, 1, N, N, 5];
+            let mut types = [0, 1, N, N, 3, 4, 5];
             let mut map = [7];
             let mut areas: [&mut [u32]; 8] = Default::default();
             let mut maps: [&mut [u32]; 5] = Default::default();
@@ -270,9 +270,9 @@ mod tests {
             let answer = compact(areas, maps, keep_unused);
             assert_eq!((answer.number, answer.counts.types), (0, kept));
             let after = if kept == 1 {
-                ([0, 1, N, N, 5], [0])
+                ([0, 1, N, N, 3, 4, 5], [0])
             } else {
-                ([N; 5], [N])
+                ([N; Area::Types.width()], [N])
             };
             assert_eq!((types, map), after);
         }
@@ -284,7 +284,7 @@ mod tests {
         let dropped = unsafe { cadnohal_adjust([N].as_ptr(), 1, 0) };
         assert_eq!((dropped.number, dropped.handle), (9, N));
         let refused = check(
-            [&[1, 0, 0, N, 0], &[], &[], &[], &[], &[], &[], &[]],
+            [&[1, 0, 0, N, 0, 0, 0], &[], &[], &[], &[], &[], &[], &[]],
             [&[7], &[], &[], &[], &[]],
         );
         assert_eq!((refused.number, refused.area, refused.record), (7, 0, 0));

@@ -6,18 +6,31 @@ use std::fmt;
 /// "No handle": the word of a slot that holds nothing.
 pub const N: u32 = u32::MAX;
 
+/// The place of the span's first word in a record's tail, which begins at [`Area::tail_at`].
+pub const START: usize = 0;
+
+/// The place of the span's second word in a record's tail.
+pub const LENGTH: usize = 1;
+
+/// The place of the tag in a record's tail.
+pub const TAG: usize = 2;
+
+/// How many words a tail has. It ends each record of areas 0 to 4 and is the host's own: the pass
+/// carries it along unread.
+pub const TAIL: usize = 3;
+
 /// One of the eight areas, in the order of their numbers.
 #[derive(Clone, Copy, Debug, PartialEq, Eq, PartialOrd, Ord, Hash)]
 pub enum Area {
-    /// 0: kind, flags, a, b, tag.
+    /// 0: kind, flags, a, b, tail.
     Types,
-    /// 1: named, type, init, tag.
+    /// 1: named, type, init, tail.
     Constants,
-    /// 2: named, type, init or N, tag.
+    /// 2: named, type, init or N, tail.
     Overrides,
-    /// 3: type, init or N, tag.
+    /// 3: type, init or N, tail.
     Globals,
-    /// 4: kind, nine slots, tag.
+    /// 4: kind, nine slots, tail.
     Expressions,
     /// 5: the member pool, one type handle a record.
     Members,
@@ -67,10 +80,18 @@ impl Area {
     /// How many words a record has.
     pub const fn width(self) -> usize {
         match self {
-            Self::Types => 5,
-            Self::Constants | Self::Overrides => 4,
-            Self::Globals => 3,
-            Self::Expressions => 11,
+            Self::Members | Self::Components | Self::Mentions => self.tail_at(),
+            _ => self.tail_at() + TAIL,
+        }
+    }
+
+    /// How many words stand before a record's tail; in an area without tails, all.
+    pub const fn tail_at(self) -> usize {
+        match self {
+            Self::Types => 4,
+            Self::Constants | Self::Overrides => 3,
+            Self::Globals => 2,
+            Self::Expressions => 10,
             Self::Members | Self::Components => 1,
             Self::Mentions => 2,
         }

@@ -11,6 +11,7 @@ mod map;
 mod module;
 mod records;
 mod refusal;
+mod tail;
 mod words;
 
 pub use compact::{Compacted, Counts, KeepUnused, Maps};
@@ -24,3 +25,4 @@ pub use map::{AdjustError, Asked, HandleMap};
 pub use module::Module;
 pub use records::{Constant, Global, Override, Type, TypeInner};
 pub use refusal::Refusal;
+pub use tail::Span;

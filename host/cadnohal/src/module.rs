@@ -8,6 +8,7 @@ use crate::{
     },
     kinds::{Area, N},
     records::{Constant, Global, Override, Type, TypeInner},
+    tail::{Record, Span, Tail},
     words::count,
 };
 
@@ -18,16 +19,19 @@ use crate::{
 /// and fill unused slots with N.
 ///
 /// ```
-/// use cadnohal::{Module, Type, TypeHandle, TypeInner, N};
+/// use cadnohal::{Area, Module, Span, Type, TypeHandle, TypeInner, N};
 ///
 /// let mut module = Module::new();
 /// let scalar = module.add_type(Type::new(TypeInner::Leaf, 10));
-/// let pair = module.add_type(Type::new(TypeInner::Members(vec![scalar, scalar]), 11).named());
+/// let both = TypeInner::Members(vec![scalar, scalar]);
+/// let span = Span { start: 412, length: 9 };
+/// let pair = module.add_type(Type::new(both.clone(), 11).named().at(span));
 /// assert_eq!(pair, TypeHandle(1));
-/// assert_eq!(module.types, [0, 0, N, N, 10, 3, 1, 0, 2, 11]);
+/// assert_eq!(module.types, [0, 0, N, N, 0, 0, 10, 3, 1, 0, 2, 412, 9, 11]);
 /// assert_eq!(module.members, [0, 0]);
 /// let read = module.type_at(pair).expect("a good record");
-/// assert_eq!((read.inner, read.named), (TypeInner::Members(vec![scalar, scalar]), true));
+/// assert_eq!((read.inner, read.named, read.span), (both, true, span));
+/// assert_eq!(module.span(Area::Types, 1), Some(span));
 /// ```
 ///
 /// A record can be read back if its own words follow the rules, no handle that must be there is N,
@@ -35,15 +39,15 @@ use crate::{
 /// check.
 #[derive(Clone, Debug, Default, PartialEq, Eq)]
 pub struct Module {
-    /// Area 0: kind, flags, a, b, tag.
+    /// Area 0: kind, flags, a, b, start, length, tag.
     pub types: Vec<u32>,
-    /// Area 1: named, type, init, tag.
+    /// Area 1: named, type, init, start, length, tag.
     pub constants: Vec<u32>,
-    /// Area 2: named, type, init or N, tag.
+    /// Area 2: named, type, init or N, start, length, tag.
     pub overrides: Vec<u32>,
-    /// Area 3: type, init or N, tag.
+    /// Area 3: type, init or N, start, length, tag.
     pub globals: Vec<u32>,
-    /// Area 4: kind, nine slots, tag.
+    /// Area 4: kind, nine slots, start, length, tag.
     pub expressions: Vec<u32>,
     /// Area 5: the member pool, type handles.
     pub members: Vec<u32>,
@@ -99,13 +103,19 @@ impl Module {
             .nth(record as usize)
     }
 
+    /// The span of one record, whatever its other words are; `None` past the last whole one and for
+    /// the pools and the mentions, which have no spans.
+    pub fn span(&self, area: Area, record: u32) -> Option<Span> {
+        Some(Tail::decode(area, self.record(area, record)?)?.span)
+    }
+
     /// Adds a type; its members go to the end of the member pool.
     pub fn add_type(&mut self, ty: Type) -> TypeHandle {
-        let words = ty.encode(count(self.members.len()));
+        let record = ty.encode(count(self.members.len()));
         if let TypeInner::Members(members) = &ty.inner {
             self.members.extend(members.iter().map(|member| member.0));
         }
-        self.add(words)
+        self.add(record)
     }
 
     /// Adds a constant.
@@ -124,13 +134,19 @@ impl Module {
     }
 
     /// Adds an expression; its components go to the end of the component pool.
-    pub fn add_expression(&mut self, expression: Expression, tag: u32) -> ExpressionHandle {
+    pub fn add_expression(
+        &mut self,
+        expression: Expression,
+        span: Span,
+        tag: u32,
+    ) -> ExpressionHandle {
         let (kind, [a, b, c, d, e, f, g, h, i]) = expression.encode(count(self.components.len()));
         if let Expression::Compose { components, .. } = &expression {
             self.components
                 .extend(components.iter().map(|component| component.0));
         }
-        self.add([kind, a, b, c, d, e, f, g, h, i, tag])
+        let words = [kind, a, b, c, d, e, f, g, h, i];
+        self.add((words, Tail::new(span, tag)))
     }
 
     /// Adds a mention: what it names is kept.
@@ -160,11 +176,13 @@ impl Module {
         Global::decode(self.words(handle)?)
     }
 
-    /// The expression at `handle` and its tag; `None` if there is none or its words are no good
-    /// record.
-    pub fn expression_at(&self, handle: ExpressionHandle) -> Option<(Expression, u32)> {
-        let [kind, slots @ .., tag] = self.words::<_, 11>(handle)?;
-        Some((Expression::decode(kind, slots, &self.components)?, tag))
+    /// The expression at `handle`, its span and its tag; `None` if there is none or its words are no
+    /// good record.
+    pub fn expression_at(&self, handle: ExpressionHandle) -> Option<(Expression, Span, u32)> {
+        let record: Record<{ Area::Expressions.tail_at() }> = self.words(handle)?;
+        let ([kind, slots @ ..], Tail { span, tag }) = record;
+        let expression = Expression::decode(kind, slots, &self.components)?;
+        Some((expression, span, tag))
     }
 
     /// The mention at place `record`; `None` if there is none or its words are no good record.
@@ -176,14 +194,18 @@ impl Module {
     }
 
     /// Adds a record's words and answers its handle.
-    fn add<H: Handle, const WIDTH: usize>(&mut self, words: [u32; WIDTH]) -> H {
+    fn add<H: Handle, const WORDS: usize>(&mut self, (words, tail): Record<WORDS>) -> H {
         let handle = H::new(count(self.count(H::AREA)));
-        self.area_mut(H::AREA).extend(words);
+        let area = self.area_mut(H::AREA);
+        area.extend(words);
+        area.extend(tail.encode());
         handle
     }
 
     /// A record's words.
-    fn words<H: Handle, const WIDTH: usize>(&self, handle: H) -> Option<[u32; WIDTH]> {
-        self.record(H::AREA, handle.index())?.try_into().ok()
+    fn words<H: Handle, const WORDS: usize>(&self, handle: H) -> Option<Record<WORDS>> {
+        let record = self.record(H::AREA, handle.index())?;
+        let words = record[..H::AREA.tail_at()].try_into().ok()?;
+        Some((words, Tail::decode(H::AREA, record)?))
     }
 }

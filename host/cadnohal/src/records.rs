@@ -3,7 +3,8 @@
 
 use crate::{
     handle::{ExpressionHandle, OverrideHandle, TypeHandle},
-    kinds::N,
+    kinds::{Area, N},
+    tail::{Record, Span, Tail},
     words::{count, flag, handle, handles, word},
 };
 
@@ -34,17 +35,20 @@ pub struct Type {
     pub named: bool,
     /// Whether it is abstract: a named constant of it is no root.
     pub is_abstract: bool,
+    /// Where it stands in the host's own text.
+    pub span: Span,
     /// The host's own number.
     pub tag: u32,
 }
 
 impl Type {
-    /// A type without a name that isn't abstract.
+    /// A type without a name that isn't abstract and has no span.
     pub fn new(inner: TypeInner, tag: u32) -> Self {
         Self {
             inner,
             named: false,
             is_abstract: false,
+            span: Span::default(),
             tag,
         }
     }
@@ -65,8 +69,13 @@ impl Type {
         }
     }
 
+    /// The same type with this span.
+    pub fn at(self, span: Span) -> Self {
+        Self { span, ..self }
+    }
+
     /// The record; the members' run starts at `start`.
-    pub(crate) fn encode(&self, start: u32) -> [u32; 5] {
+    pub(crate) fn encode(&self, start: u32) -> Record<{ Area::Types.tail_at() }> {
         let [kind, a, b] = match self.inner {
             TypeInner::Leaf => [0, N, N],
             TypeInner::Base(base) => [1, base.0, N],
@@ -74,11 +83,12 @@ impl Type {
             TypeInner::Members(ref members) => [3, start, count(members.len())],
         };
         let flags = u32::from(self.named) + 2 * u32::from(self.is_abstract);
-        [kind, flags, a, b, self.tag]
+        ([kind, flags, a, b], Tail::new(self.span, self.tag))
     }
 
     /// The type of a record; `pool` is the member pool.
-    pub(crate) fn decode([kind, flags, a, b, tag]: [u32; 5], pool: &[u32]) -> Option<Self> {
+    pub(crate) fn decode(record: Record<{ Area::Types.tail_at() }>, pool: &[u32]) -> Option<Self> {
+        let ([kind, flags, a, b], Tail { span, tag }) = record;
         let inner = match kind {
             0 if a == N && b == N => TypeInner::Leaf,
             1 if b == N => TypeInner::Base(handle(a)?),
@@ -95,6 +105,7 @@ impl Type {
             inner,
             named,
             is_abstract,
+            span,
             tag,
         })
     }
@@ -109,21 +120,27 @@ pub struct Constant {
     pub ty: TypeHandle,
     /// Its value.
     pub init: ExpressionHandle,
+    /// Where it stands in the host's own text.
+    pub span: Span,
     /// The host's own number.
     pub tag: u32,
 }
 
 impl Constant {
-    pub(crate) fn encode(&self) -> [u32; 4] {
-        [self.named.into(), self.ty.0, self.init.0, self.tag]
+    pub(crate) fn encode(&self) -> Record<{ Area::Constants.tail_at() }> {
+        let words = [self.named.into(), self.ty.0, self.init.0];
+        (words, Tail::new(self.span, self.tag))
     }
 
-    pub(crate) fn decode([named, ty, init, tag]: [u32; 4]) -> Option<Self> {
+    pub(crate) fn decode(
+        ([named, ty, init], tail): Record<{ Area::Constants.tail_at() }>,
+    ) -> Option<Self> {
         Some(Self {
             named: flag(named)?,
             ty: handle(ty)?,
             init: handle(init)?,
-            tag,
+            span: tail.span,
+            tag: tail.tag,
         })
     }
 }
@@ -137,21 +154,27 @@ pub struct Override {
     pub ty: TypeHandle,
     /// Its value, if it has one.
     pub init: Option<ExpressionHandle>,
+    /// Where it stands in the host's own text.
+    pub span: Span,
     /// The host's own number.
     pub tag: u32,
 }
 
 impl Override {
-    pub(crate) fn encode(&self) -> [u32; 4] {
-        [self.named.into(), self.ty.0, word(self.init), self.tag]
+    pub(crate) fn encode(&self) -> Record<{ Area::Overrides.tail_at() }> {
+        let words = [self.named.into(), self.ty.0, word(self.init)];
+        (words, Tail::new(self.span, self.tag))
     }
 
-    pub(crate) fn decode([named, ty, init, tag]: [u32; 4]) -> Option<Self> {
+    pub(crate) fn decode(
+        ([named, ty, init], tail): Record<{ Area::Overrides.tail_at() }>,
+    ) -> Option<Self> {
         Some(Self {
             named: flag(named)?,
             ty: handle(ty)?,
             init: handle(init),
-            tag,
+            span: tail.span,
+            tag: tail.tag,
         })
     }
 }
@@ -164,20 +187,24 @@ pub struct Global {
     pub ty: TypeHandle,
     /// Its first value, if it has one.
     pub init: Option<ExpressionHandle>,
+    /// Where it stands in the host's own text.
+    pub span: Span,
     /// The host's own number.
     pub tag: u32,
 }
 
 impl Global {
-    pub(crate) fn encode(&self) -> [u32; 3] {
-        [self.ty.0, word(self.init), self.tag]
+    pub(crate) fn encode(&self) -> Record<{ Area::Globals.tail_at() }> {
+        let words = [self.ty.0, word(self.init)];
+        (words, Tail::new(self.span, self.tag))
     }
 
-    pub(crate) fn decode([ty, init, tag]: [u32; 3]) -> Option<Self> {
+    pub(crate) fn decode(([ty, init], tail): Record<{ Area::Globals.tail_at() }>) -> Option<Self> {
         Some(Self {
             ty: handle(ty)?,
             init: handle(init),
-            tag,
+            span: tail.span,
+            tag: tail.tag,
         })
     }
 }

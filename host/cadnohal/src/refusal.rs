@@ -4,8 +4,9 @@
 use crate::{
     compact::Maps,
     ffi::Answer,
-    kinds::{kind_of, Area, N},
+    kinds::{kind_of, Area},
     module::Module,
+    tail::{Span, Tail, Word},
     words::run,
 };
 use std::fmt;
@@ -13,16 +14,19 @@ use std::fmt;
 /// Why and where a module was refused. Not a word of its areas and maps has changed.
 ///
 /// ```
-/// use cadnohal::{Expression, ExpressionHandle, Module};
+/// use cadnohal::{Expression, ExpressionHandle, Module, Span};
 ///
 /// let mut module = Module::new();
-/// module.add_expression(Expression::Literal, 20);
-/// module.add_expression(Expression::Unary { expr: ExpressionHandle(1) }, 21);
+/// module.add_expression(Expression::Literal, Span { start: 408, length: 2 }, 20);
+/// let itself = Expression::Unary { expr: ExpressionHandle(1) };
+/// module.add_expression(itself, Span { start: 412, length: 9 }, 21);
+/// let refusal = module.check().unwrap_err();
 /// assert_eq!(
-///     module.check().unwrap_err().to_string(),
-///     "refusal 7 at expressions, record 1: the expression isn't well ordered: \
-///      something that it rests on must stand before it (words: 19 Unary 1 N N N N N N N N 21)"
+///     refusal.to_string(),
+///     "refusal 7 at expressions, record 1, span 412,9: the expression isn't well ordered: something \
+///      that it rests on must stand before it (words: 19 Unary 1 N N N N N N N N 412 9 21)"
 /// );
+/// assert_eq!(refusal.span(), module.span(refusal.area, refusal.record));
 /// ```
 #[derive(Clone, Debug, PartialEq, Eq)]
 pub struct Refusal {
@@ -52,7 +56,7 @@ impl Refusal {
             _ => module.record(area, record).unwrap_or_default(),
         };
         let run = match (area, words) {
-            (Area::Types, &[3, _, start, count, _]) => run(&module.members, start, count),
+            (Area::Types, &[3, _, start, count, ..]) => run(&module.members, start, count),
             (Area::Expressions, &[8, _, start, count, ..]) => run(&module.components, start, count),
             _ => None,
         };
@@ -65,6 +69,12 @@ impl Refusal {
             length: module.area(area).len(),
             map_length: maps.words().get(area as usize).map_or(0, |map| map.len()),
         }
+    }
+
+    /// The span of the refused record; `None` where no record is refused or a mention is, which has
+    /// none.
+    pub fn span(&self) -> Option<Span> {
+        Some(Tail::decode(self.area, &self.words)?.span)
     }
 
     /// What the number means, as far as number and area tell.
@@ -103,6 +113,9 @@ impl fmt::Display for Refusal {
         if !self.words.is_empty() {
             write!(f, ", record {}", self.record)?;
         }
+        if let Some(span) = self.span().filter(|span| span.is_given()) {
+            write!(f, ", span {span}")?;
+        }
         write!(f, ": {} (", self.meaning())?;
         match self.number {
             1 => write!(f, "length {length}, width {}", area.width())?,
@@ -134,10 +147,7 @@ impl fmt::Display for Words<'_> {
         let (shown, rest) = self.0.split_at(self.0.len().min(16));
         for (i, &word) in shown.iter().enumerate() {
             let space = if i == 0 { "" } else { " " };
-            match word {
-                N => write!(f, "{space}N")?,
-                _ => write!(f, "{space}{word}")?,
-            }
+            write!(f, "{space}{}", Word(word))?;
         }
         match rest.len() {
             0 => Ok(()),

@@ -5,26 +5,26 @@
 mod common;
 
 use cadnohal::{Area, Compacted, KeepUnused, Maps, Module, N};
-use common::{maps, module, place, place_with, words};
+use common::{maps, module, place, place_with, tail, words};
 
 /// A module of this many records in `area`, each good, and what they rest on: only their number can
 /// be refused.
 fn counted(area: Area, count: usize) -> Module {
     let record = match area {
-        Area::Types => "0 0 N N 0",
-        Area::Constants => "1 0 0 0",
-        Area::Overrides => "1 0 N 0",
-        Area::Globals => "0 N 0",
-        Area::Expressions => "0 9*N 0",
+        Area::Types => "0 0 N N ~0",
+        Area::Constants => "1 0 0 ~0",
+        Area::Overrides => "1 0 N ~0",
+        Area::Globals => "0 N ~0",
+        Area::Expressions => "0 9*N ~0",
         Area::Members | Area::Components => "0",
         Area::Mentions => "0 0",
     };
-    let mut module = module(["0 0 N N 0", "", "", "", "0 9*N 0", "", "", ""]);
+    let mut module = module(["0 0 N N ~0", "", "", "", "0 9*N ~0", "", "", ""]);
     *module.area_mut(area) = words(record).repeat(count);
     match area {
-        Area::Members => module.types.extend(words(&format!("3 1 0 {count} 0"))),
+        Area::Members => module.types.extend(words(&format!("3 1 0 {count} ~0"))),
         Area::Components => {
-            let compose = format!("8 0 0 {count} 6*N 0");
+            let compose = format!("8 0 0 {count} 6*N ~0");
             module.expressions.extend(words(&compose));
         }
         _ => {}
@@ -94,29 +94,33 @@ fn number_1_comes_before_number_2() {
 /// Appends `count` records to each arena and four times as many words to each pool. They refer to
 /// one another only, and each is unnamed or each is named. Of types and expressions every other has
 /// a run of eight older ones; the types between are sized by overrides whose inits rise with them.
+/// Named ones have other tags than unnamed ones, and every record's span is its own.
 fn append(module: &mut Module, count: u32, named: u32) {
     let at = module.count(Area::Types) as u32;
-    for tag in 0..count {
-        let me = at + tag;
-        let run = (0..8).map(|k| at + (tag * 7 + k * 13) % tag);
-        let (ty, init, expression) = match (tag, tag % 4) {
-            (0, _) => ([0, named, N, N, tag], N, [0, N, N, N]),
+    for place in 0..count {
+        let me = at + place;
+        let run = (0..8).map(|k| at + (place * 7 + k * 13) % place);
+        let (ty, init, expression) = match (place, place % 4) {
+            (0, _) => ([0, named, N, N], N, [0, N, N, N]),
             (_, 1 | 3) => {
                 let (members, components) = (module.members.len(), module.components.len());
                 module.members.extend(run.clone());
                 module.components.extend(run);
-                let ty = [3, named, members as u32, 8, tag];
+                let ty = [3, named, members as u32, 8];
                 (ty, me, [8, me, components as u32, 8])
             }
-            (_, 2) => ([2, named, me - 1, me, tag], me - 1, [5, me - 1, N, N]),
-            _ => ([2, named, me - 1, me, tag], me - 1, [6, me, N, N]),
+            (_, 2) => ([2, named, me - 1, me], me - 1, [5, me - 1, N, N]),
+            _ => ([2, named, me - 1, me], me - 1, [6, me, N, N]),
         };
         module.types.extend(ty);
-        module.constants.extend([named, me, me, tag]);
-        module.overrides.extend([named, at, init, tag]);
-        module.globals.extend([me, me, tag]);
+        module.constants.extend([named, me, me]);
+        module.overrides.extend([named, at, init]);
+        module.globals.extend([me, me]);
         module.expressions.extend(expression);
-        module.expressions.extend([N, N, N, N, N, N, tag]);
+        module.expressions.extend([N, N, N, N, N, N]);
+        for area in Area::ALL.into_iter().take(5) {
+            module.area_mut(area).extend(tail(place + MOST * named));
+        }
     }
 }
 
@@ -191,7 +195,7 @@ fn every_area_at_its_limit_and_one_type_kept() {
     assert!(maps.types.words() == [&[0], &dropped[1..]].concat());
     assert!(maps.words()[1..].iter().all(|&map| map == dropped));
     let kept = Module {
-        types: words("0 0 N N 0"),
+        types: words("0 0 N N ~0"),
         mentions: full.mentions.clone(),
         ..Module::new()
     };

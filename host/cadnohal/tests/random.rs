@@ -6,7 +6,7 @@ use cadnohal::{
     Area, Compacted, ConstantHandle, Element, ExpressionHandle, GlobalHandle, KeepUnused, Maps,
     Module, OverrideHandle, TypeHandle, TypeInner, N,
 };
-use common::{long_maps, refusal_with, Random, ROLES};
+use common::{long_maps, refusal_with, tail, Random, ROLES};
 use std::collections::BTreeSet;
 
 /// A word that is often small or near N, so that many records are almost good.
@@ -29,9 +29,9 @@ fn words(random: &mut Random) -> Module {
         *module.area_mut(area) = (0..length).map(|_| word(random)).collect();
         // Records with all unused slots N are the likelier to be good.
         if area == Area::Expressions && random.below(2) == 0 {
-            for record in module.expressions.chunks_mut(area.width()) {
+            for record in module.expressions.chunks_exact_mut(area.width()) {
                 let named = random.below(5) as usize;
-                record.iter_mut().skip(1 + named).for_each(|word| *word = N);
+                record[1 + named..area.tail_at()].fill(N);
             }
         }
     }
@@ -93,17 +93,25 @@ fn almost_accepted(random: &mut Random) -> Module {
     module
 }
 
+/// Adds a record with the tail of this tag.
+fn add(area: &mut Vec<u32>, words: &[u32], tag: u32) {
+    area.extend(words);
+    area.extend(tail(tag));
+}
+
 /// A module that is accepted: each record names only what was there before it.
 fn accepted(random: &mut Random) -> Module {
     let mut module = Module::new();
     for tag in 0..60 {
         let some = |area: Area, random: &mut Random| random.below(module.count(area) as u32);
         match random.below(7) {
-            _ if module.types.is_empty() => module.types.extend([0, 0, N, N, tag]),
+            _ if module.types.is_empty() => add(&mut module.types, &[0, 0, N, N], tag),
             _ if module.expressions.is_empty() => {
-                module
-                    .expressions
-                    .extend([0, N, N, N, N, N, N, N, N, N, tag]);
+                add(
+                    &mut module.expressions,
+                    &[0, N, N, N, N, N, N, N, N, N],
+                    tag,
+                );
             }
             0 | 1 => {
                 let kind = random.below(if module.overrides.is_empty() { 2 } else { 4 });
@@ -119,26 +127,23 @@ fn accepted(random: &mut Random) -> Module {
                     module.members.extend(run);
                 }
                 let flags = [0, 0, 0, 0, 0, 1, 2, 3][random.below(8) as usize];
-                module.types.extend([kind, flags, a, b, tag]);
+                add(&mut module.types, &[kind, flags, a, b], tag);
             }
             2 => {
                 let [ty, init] = [some(Area::Types, random), some(Area::Expressions, random)];
-                module
-                    .constants
-                    .extend([u32::from(random.below(4) == 0), ty, init, tag]);
+                let named = u32::from(random.below(4) == 0);
+                add(&mut module.constants, &[named, ty, init], tag);
             }
             3 => {
                 let [ty, init] = [some(Area::Types, random), some(Area::Expressions, random)];
                 let init = [init, N][random.below(2) as usize];
-                module
-                    .overrides
-                    .extend([u32::from(random.below(4) == 0), ty, init, tag]);
+                let named = u32::from(random.below(4) == 0);
+                add(&mut module.overrides, &[named, ty, init], tag);
             }
             4 if random.below(3) == 0 => {
                 let init = [some(Area::Expressions, random), N][random.below(2) as usize];
-                module
-                    .globals
-                    .extend([some(Area::Types, random), init, tag]);
+                let ty = some(Area::Types, random);
+                add(&mut module.globals, &[ty, init], tag);
             }
             _ => {
                 let kind = random.below(34);
@@ -171,8 +176,7 @@ fn accepted(random: &mut Random) -> Module {
                         .collect();
                     module.components.extend(run);
                 }
-                record.push(tag);
-                module.expressions.extend(record);
+                add(&mut module.expressions, &record, tag);
             }
         }
     }
@@ -316,12 +320,15 @@ fn a_pass_keeps_what_the_roots_reach() {
                     .map(|old| adjusted(&maps, old))
                     .collect();
                 assert_eq!(Some(references(&after, new)), named);
-                let tag = |module: &Module, element: Element| {
-                    module
-                        .record(area, element.index())
-                        .and_then(|words| words.last().copied())
+                let tail = |module: &Module, element: Element| {
+                    let record = module.record(area, element.index());
+                    record.map(|words| words[area.tail_at()..].to_vec())
                 };
-                assert_eq!(tag(&after, new), tag(&before, element));
+                assert_eq!(tail(&after, new), tail(&before, element));
+                assert_eq!(
+                    after.span(area, new.index()),
+                    before.span(area, element.index())
+                );
             }
             assert_eq!(counts.to_array()[..5], next);
             for record in 0..before.count(Area::Mentions) as u32 {

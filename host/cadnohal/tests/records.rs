@@ -5,19 +5,26 @@ mod common;
 use cadnohal::kinds::{self, Holds};
 use cadnohal::{
     Area, Constant, ConstantHandle, Element, Expression, ExpressionHandle, Global, GlobalHandle,
-    ImageQuery, Module, Override, OverrideHandle, SampleLevel, Type, TypeHandle, TypeInner, N,
+    ImageQuery, Module, Override, OverrideHandle, SampleLevel, Span, Type, TypeHandle, TypeInner,
+    N,
 };
-use common::{module, place, slots, words};
+use common::{module, place, slots, span, words};
 
 const fn e(place: u32) -> ExpressionHandle {
     ExpressionHandle(place)
 }
 
+/// A span and, in [`words`], the two words that it is.
+const SPAN: Span = Span {
+    start: 412,
+    length: 9,
+};
+
 /// A module with one type, one constant, one override and nine expressions to name.
 fn stage() -> Module {
-    let mut module = module(["0 0 N N 10", "0 0 0 11", "0 0 N 12", "", "", "", "", ""]);
+    let mut module = module(["0 0 N N ~10", "0 0 0 ~11", "0 0 N ~12", "", "", "", "", ""]);
     for tag in 0..9 {
-        module.add_expression(Expression::Literal, tag);
+        module.add_expression(Expression::Literal, span(tag), tag);
     }
     module
 }
@@ -196,16 +203,18 @@ fn each_kind_is_written_read_and_accepted() {
     let mut kinds = Vec::new();
     for (expression, text) in expressions() {
         let mut module = stage();
-        let handle = module.add_expression(expression.clone(), 77);
+        let handle = module.add_expression(expression.clone(), SPAN, 77);
         assert_eq!(handle, e(9));
-        assert_eq!(module.expressions[99..], words(&format!("{text} 77")));
-        assert_eq!(module.expression_at(handle), Some((expression.clone(), 77)));
+        let (_, added) = module.expressions.split_at(9 * 13);
+        assert_eq!(added, words(&format!("{text} 412 9 77")));
+        let read = module.expression_at(handle);
+        assert_eq!(read, Some((expression.clone(), SPAN, 77)));
         let refused = matches!(
             expression,
             Expression::GlobalVariable | Expression::CallResult
         );
         assert_eq!(place(&module), if refused { [5, 4, 9] } else { [0, 0, 0] });
-        kinds.push(module.expressions[99]);
+        kinds.push(added[0]);
     }
     kinds.dedup();
     assert_eq!(kinds, (0..34).collect::<Vec<_>>());
@@ -214,20 +223,21 @@ fn each_kind_is_written_read_and_accepted() {
 #[test]
 fn runs_are_packed() {
     let mut module = Module::new();
-    let leaf = module.add_type(Type::new(TypeInner::Leaf, 1));
-    let pair = module.add_type(Type::new(TypeInner::Members(vec![leaf, leaf]), 2));
-    let none = module.add_type(Type::new(TypeInner::Members(vec![]), 3));
-    let last = module.add_type(Type::new(TypeInner::Members(vec![pair, none, leaf]), 4));
-    let one = module.add_expression(Expression::Literal, 5);
+    let ty = |inner, tag| Type::new(inner, tag).at(span(tag));
+    let leaf = module.add_type(ty(TypeInner::Leaf, 1));
+    let pair = module.add_type(ty(TypeInner::Members(vec![leaf, leaf]), 2));
+    let none = module.add_type(ty(TypeInner::Members(vec![]), 3));
+    let last = module.add_type(ty(TypeInner::Members(vec![pair, none, leaf]), 4));
+    let one = module.add_expression(Expression::Literal, span(5), 5);
     let compose = |ty, components| Expression::Compose { ty, components };
-    let two = module.add_expression(compose(pair, vec![one, one]), 6);
-    module.add_expression(compose(last, vec![two, one, one]), 7);
+    let two = module.add_expression(compose(pair, vec![one, one]), span(6), 6);
+    module.add_expression(compose(last, vec![two, one, one]), span(7), 7);
     let built = common::module([
-        "0 0 N N 1  3 0 0 2 2  3 0 2 0 3  3 0 2 3 4",
+        "0 0 N N ~1  3 0 0 2 ~2  3 0 2 0 ~3  3 0 2 3 ~4",
         "",
         "",
         "",
-        "0 9*N 5  8 1 0 2 6*N 6  8 3 2 3 6*N 7",
+        "0 9*N ~5  8 1 0 2 6*N ~6  8 3 2 3 6*N ~7",
         "0 0 1 2 0",
         "0 0 1 0 0",
         "",
@@ -245,18 +255,24 @@ fn each_kind_of_type_is_written_and_read() {
         TypeInner::Members(vec![base, base]),
     );
     for (ty, text) in [
-        (Type::new(leaf.clone(), 5), "0 0 N N 5"),
-        (Type::new(leaf.clone(), 5).named(), "0 1 N N 5"),
-        (Type::new(leaf.clone(), 5).marked_abstract(), "0 2 N N 5"),
-        (Type::new(leaf, N).named().marked_abstract(), "0 3 N N N"),
-        (Type::new(on_base, 6), "1 0 0 N 6"),
-        (Type::new(pending, 7), "2 0 0 0 7"),
-        (Type::new(members, 8), "3 0 0 2 8"),
+        (Type::new(leaf.clone(), 5), "0 0 N N 0 0 5"),
+        (Type::new(leaf.clone(), 5).named(), "0 1 N N 0 0 5"),
+        (
+            Type::new(leaf.clone(), 5).marked_abstract().at(SPAN),
+            "0 2 N N 412 9 5",
+        ),
+        (
+            Type::new(leaf, N).at(SPAN).named().marked_abstract(),
+            "0 3 N N 412 9 N",
+        ),
+        (Type::new(on_base, 6).at(span(0)), "1 0 0 N N 0 6"),
+        (Type::new(pending, 7).at(SPAN), "2 0 0 0 412 9 7"),
+        (Type::new(members, 8).at(SPAN), "3 0 0 2 412 9 8"),
     ] {
         let mut module = stage();
         let handle = module.add_type(ty.clone());
         assert_eq!(handle, TypeHandle(1));
-        assert_eq!(module.types[5..], words(text));
+        assert_eq!(module.types[7..], words(text));
         assert_eq!(module.type_at(handle), Some(ty));
         assert_eq!(place(&module), [0, 0, 0]);
     }
@@ -270,6 +286,7 @@ fn constants_overrides_and_globals_are_written_and_read() {
         named: true,
         ty,
         init,
+        span: SPAN,
         tag: 5,
     };
     assert_eq!(module.add_constant(constant), ConstantHandle(1));
@@ -277,6 +294,7 @@ fn constants_overrides_and_globals_are_written_and_read() {
         named: true,
         ty,
         init: Some(init),
+        span: span(0),
         tag: 6,
     };
     assert_eq!(module.add_override(with), OverrideHandle(1));
@@ -284,24 +302,28 @@ fn constants_overrides_and_globals_are_written_and_read() {
         named: false,
         ty,
         init: None,
+        span: SPAN,
         tag: 7,
     };
     assert_eq!(module.add_override(without), OverrideHandle(2));
     let first = Global {
         ty,
         init: Some(init),
+        span: Span::default(),
         tag: 8,
     };
     assert_eq!(module.add_global(first), GlobalHandle(0));
     let second = Global {
         ty,
         init: None,
+        span: SPAN,
         tag: 9,
     };
     assert_eq!(module.add_global(second), GlobalHandle(1));
-    assert_eq!(module.constants[4..], words("1 0 3 5"));
-    assert_eq!(module.overrides[4..], words("1 0 3 6  0 0 N 7"));
-    assert_eq!(module.globals, words("0 3 8  0 N 9"));
+    assert_eq!(module.constants[6..], words("1 0 3 412 9 5"));
+    let overrides = "1 0 3 N 0 6  0 0 N 412 9 7";
+    assert_eq!(module.overrides[6..], words(overrides));
+    assert_eq!(module.globals, words("0 3 0 0 8  0 N 412 9 9"));
     assert_eq!(module.constant_at(ConstantHandle(1)), Some(constant));
     assert_eq!(module.override_at(OverrideHandle(1)), Some(with));
     assert_eq!(module.override_at(OverrideHandle(2)), Some(without));
@@ -338,50 +360,50 @@ fn mentions_are_written_and_read() {
 fn bad_records_are_not_read() {
     let types = |text: &str| module([text, "", "", "", "", "0 N 0", "", ""]).type_at(TypeHandle(0));
     assert_eq!(types(""), None);
-    assert_eq!(types("0 0 N N"), None);
+    assert_eq!(types("0 0 N N 0 0"), None);
     for text in [
-        "4 0 N N 0",
-        "N 0 N N 0",
-        "0 4 N N 0",
-        "0 N N N 0",
-        "0 0 0 N 0",
-        "0 0 N 0 0",
-        "1 0 N N 0",
-        "1 0 0 0 0",
-        "2 0 N 0 0",
-        "2 0 0 N 0",
-        "3 0 0 2 0",
-        "3 0 2 2 0",
-        "3 0 4 0 0",
-        "3 0 N 0 0",
-        "3 0 0 N 0",
-        "3 0 N N 0",
+        "4 0 N N ~0",
+        "N 0 N N ~0",
+        "0 4 N N ~0",
+        "0 N N N ~0",
+        "0 0 0 N ~0",
+        "0 0 N 0 ~0",
+        "1 0 N N ~0",
+        "1 0 0 0 ~0",
+        "2 0 N 0 ~0",
+        "2 0 0 N ~0",
+        "3 0 0 2 ~0",
+        "3 0 2 2 ~0",
+        "3 0 4 0 ~0",
+        "3 0 N 0 ~0",
+        "3 0 0 N ~0",
+        "3 0 N N ~0",
     ] {
         assert_eq!(types(text), None, "{text}");
     }
-    assert!(types("3 0 3 0 0").is_some());
+    assert!(types("3 0 3 0 ~0").is_some());
     assert_eq!(
-        module(["", "2 0 0 0", "", "", "", "", "", ""]).constant_at(ConstantHandle(0)),
+        module(["", "2 0 0 ~0", "", "", "", "", "", ""]).constant_at(ConstantHandle(0)),
         None
     );
     assert_eq!(
-        module(["", "0 N 0 0", "", "", "", "", "", ""]).constant_at(ConstantHandle(0)),
+        module(["", "0 N 0 ~0", "", "", "", "", "", ""]).constant_at(ConstantHandle(0)),
         None
     );
     assert_eq!(
-        module(["", "0 0 N 0", "", "", "", "", "", ""]).constant_at(ConstantHandle(0)),
+        module(["", "0 0 N ~0", "", "", "", "", "", ""]).constant_at(ConstantHandle(0)),
         None
     );
     assert_eq!(
-        module(["", "", "2 0 0 0", "", "", "", "", ""]).override_at(OverrideHandle(0)),
+        module(["", "", "2 0 0 ~0", "", "", "", "", ""]).override_at(OverrideHandle(0)),
         None
     );
     assert_eq!(
-        module(["", "", "0 N 0 0", "", "", "", "", ""]).override_at(OverrideHandle(0)),
+        module(["", "", "0 N 0 ~0", "", "", "", "", ""]).override_at(OverrideHandle(0)),
         None
     );
     assert_eq!(
-        module(["", "", "", "N 0 0", "", "", "", ""]).global_at(GlobalHandle(0)),
+        module(["", "", "", "N 0 ~0", "", "", "", ""]).global_at(GlobalHandle(0)),
         None
     );
     for text in ["5 0", "N 0", "0 N"] {
@@ -393,39 +415,39 @@ fn bad_records_are_not_read() {
     }
     let expression =
         |text: &str| module(["", "", "", "", text, "", "0 N 0", ""]).expression_at(e(0));
-    assert_eq!(expression("0 9*N"), None);
+    assert_eq!(expression("0 9*N 0 0"), None);
     for text in [
-        "34 9*N 0",
-        "N 9*N 0",
-        "0 0 8*N 0",
-        "4 8*N 0 0",
-        "5 9*N 0",
-        "6 9*N 0",
-        "7 9*N 0",
-        "7 0 0 7*N 0",
-        "8 N 0 1 6*N 0",
-        "8 0 0 2 6*N 0",
-        "8 0 4 0 6*N 0",
-        "8 0 N 0 6*N 0",
-        "8 0 0 N 6*N 0",
-        "8 0 0 1 0 5*N 0",
-        "9 0 8*N 0",
-        "13 0 8*N 0",
-        "27 8*N 0 0",
-        "15 0 0 0 N N 5 N N N 0",
-        "15 0 0 0 N N 0 0 N N 0",
-        "15 0 0 0 N N 1 N 0 N 0",
-        "15 0 0 0 N N 2 N N N 0",
-        "15 0 0 0 N N 3 0 0 N 0",
-        "15 0 0 0 N N 4 0 N N 0",
-        "15 0 0 N N N 0 N N N 0",
-        "16 0 8*N 0",
-        "17 0 4 7*N 0",
-        "17 0 N 7*N 0",
-        "17 0 1 0 6*N 0",
-        "17 N 0 7*N 0",
-        "24 9*N 0",
-        "33 0 0 7*N 0",
+        "34 9*N ~0",
+        "N 9*N ~0",
+        "0 0 8*N ~0",
+        "4 8*N 0 ~0",
+        "5 9*N ~0",
+        "6 9*N ~0",
+        "7 9*N ~0",
+        "7 0 0 7*N ~0",
+        "8 N 0 1 6*N ~0",
+        "8 0 0 2 6*N ~0",
+        "8 0 4 0 6*N ~0",
+        "8 0 N 0 6*N ~0",
+        "8 0 0 N 6*N ~0",
+        "8 0 0 1 0 5*N ~0",
+        "9 0 8*N ~0",
+        "13 0 8*N ~0",
+        "27 8*N 0 ~0",
+        "15 0 0 0 N N 5 N N N ~0",
+        "15 0 0 0 N N 0 0 N N ~0",
+        "15 0 0 0 N N 1 N 0 N ~0",
+        "15 0 0 0 N N 2 N N N ~0",
+        "15 0 0 0 N N 3 0 0 N ~0",
+        "15 0 0 0 N N 4 0 N N ~0",
+        "15 0 0 N N N 0 N N N ~0",
+        "16 0 8*N ~0",
+        "17 0 4 7*N ~0",
+        "17 0 N 7*N ~0",
+        "17 0 1 0 6*N ~0",
+        "17 N 0 7*N ~0",
+        "24 9*N ~0",
+        "33 0 0 7*N ~0",
     ] {
         assert_eq!(expression(text), None, "{text}");
     }
@@ -572,11 +594,11 @@ fn kinds_are_found_by_their_words() {
 fn areas_are_those_of_document_01() {
     let facts = Area::ALL.map(|area| (area.code(), area.name(), area.width(), area.limit()));
     let expected = [
-        (0, "types", 5, 65_536),
-        (1, "constants", 4, 65_536),
-        (2, "overrides", 4, 65_536),
-        (3, "globals", 3, 65_536),
-        (4, "expressions", 11, 65_536),
+        (0, "types", 7, 65_536),
+        (1, "constants", 6, 65_536),
+        (2, "overrides", 6, 65_536),
+        (3, "globals", 5, 65_536),
+        (4, "expressions", 13, 65_536),
         (5, "members", 1, 262_144),
         (6, "components", 1, 262_144),
         (7, "mentions", 2, 65_536),
@@ -588,12 +610,32 @@ fn areas_are_those_of_document_01() {
 }
 
 #[test]
-fn the_header_has_the_same_limits() {
+fn the_header_has_the_same_limits_widths_and_places() {
     let header = include_str!("../../../include/cadnohal.h");
     for area in Area::ALL {
         let begins = format!(" *   {} {area} ", area.code());
         let line = header.lines().find(|line| line.starts_with(&begins));
         let said = line.expect("a line").trim_end_matches(" records");
         assert_eq!(said.rsplit(' ').next(), Some(&*area.limit().to_string()));
+        let pool = matches!(area, Area::Members | Area::Components);
+        let listed = line.expect("a line").matches(", ").count() + 1;
+        // Nine slots are listed as one.
+        let slots = if area == Area::Expressions { 8 } else { 0 };
+        assert_eq!(listed + slots, area.width(), "{area}");
+        let name = area.name().trim_end_matches('s').to_uppercase();
+        let width = (!pool).then_some(area.width());
+        assert_eq!(defined(header, &format!("{name}_WIDTH")), width);
     }
+    // The header counts from a record's end.
+    let before_end = |place| Some(kinds::TAIL - place);
+    assert_eq!(defined(header, "SPAN_START"), before_end(kinds::START));
+    assert_eq!(defined(header, "SPAN_LENGTH"), before_end(kinds::LENGTH));
+    assert_eq!(defined(header, "TAG"), before_end(kinds::TAG));
+}
+
+/// The number that the header gives a name.
+fn defined(header: &str, name: &str) -> Option<usize> {
+    let begins = format!("#define CADNOHAL_{name} ");
+    let number = header.lines().find_map(|line| line.strip_prefix(&begins))?;
+    number.parse().ok()
 }

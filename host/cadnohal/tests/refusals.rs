@@ -3,20 +3,20 @@
 
 mod common;
 
-use cadnohal::{Area, HandleMap, Maps, Module, N};
+use cadnohal::{Area, HandleMap, Maps, Module, Span, N};
 use common::{
-    long_maps, maps_of, module, place, place_with, refusal_with, slots, with_kind, with_slot,
-    words, TESTED,
+    long_maps, maps_of, module, place, place_with, refusal_with, slots, span, tail, tested,
+    with_kind, with_slot, words, TESTED,
 };
 
 /// A module that passes, with something in every area.
 fn good() -> Module {
     module([
-        "0 1 N N 1  1 0 0 N 2  2 0 0 0 3  3 0 0 2 4  3 0 2 1 5",
-        "1 0 0 6",
-        "1 0 0 7  0 0 N 8",
-        "3 1 9  0 N 10",
-        "0 9*N 11  0 9*N 12  5 0 8*N 13  6 1 8*N 14  8 3 0 2 6*N 15  8 3 2 1 6*N 16",
+        "0 1 N N ~1  1 0 0 N ~2  2 0 0 0 ~3  3 0 0 2 ~4  3 0 2 1 ~5",
+        "1 0 0 ~6",
+        "1 0 0 ~7  0 0 N ~8",
+        "3 1 ~9  0 N ~10",
+        "0 9*N ~11  0 9*N ~12  5 0 8*N ~13  6 1 8*N ~14  8 3 0 2 6*N ~15  8 3 2 1 6*N ~16",
         "0 1 3",
         "0 1 4",
         "0 3  1 0  2 0  3 0  4 5",
@@ -45,10 +45,9 @@ fn the_good_module_passes() {
 
 #[test]
 fn number_1_at_each_area() {
-    let widths = [(0, 5), (1, 4), (2, 4), (3, 3), (4, 11), (7, 2)];
-    for (code, width) in widths {
-        let area = Area::from_code(code).expect("an area");
-        for extra in 1..width {
+    for area in Area::ALL.into_iter().filter(|area| area.width() > 1) {
+        let code = area.code();
+        for extra in 1..area.width() {
             let mut longer = good();
             longer.area_mut(area).extend(vec![0; extra]);
             assert_eq!(place(&longer), [1, code, 0]);
@@ -167,24 +166,24 @@ fn number_4_at_the_component_runs() {
 fn empty_runs_start_at_the_sum_before_them() {
     let types = |runs| module([runs, "", "", "", "", "0", "", ""]);
     assert_eq!(
-        place(&types("0 0 N N 0  3 0 0 0 0  3 0 0 1 0  3 0 1 0 0")),
+        place(&types("0 0 N N ~0  3 0 0 0 ~1  3 0 0 1 ~2  3 0 1 0 ~3")),
         [0, 0, 0]
     );
     assert_eq!(
-        place(&types("0 0 N N 0  3 0 1 0 0  3 0 0 1 0  3 0 1 0 0")),
+        place(&types("0 0 N N ~0  3 0 1 0 ~1  3 0 0 1 ~2  3 0 1 0 ~3")),
         [4, 0, 1]
     );
     assert_eq!(
-        place(&types("0 0 N N 0  3 0 0 0 0  3 0 0 1 0  3 0 0 0 0")),
+        place(&types("0 0 N N ~0  3 0 0 0 ~1  3 0 0 1 ~2  3 0 0 0 ~3")),
         [4, 0, 3]
     );
-    let expressions = |runs| module(["0 0 N N 0", "", "", "", runs, "", "0", ""]);
+    let expressions = |runs| module(["0 0 N N ~0", "", "", "", runs, "", "0", ""]);
     assert_eq!(
-        place(&expressions("0 9*N 0  8 0 0 1 6*N 0  8 0 1 0 6*N 0")),
+        place(&expressions("0 9*N ~0  8 0 0 1 6*N ~1  8 0 1 0 6*N ~2")),
         [0, 0, 0]
     );
     assert_eq!(
-        place(&expressions("0 9*N 0  8 0 0 1 6*N 0  8 0 0 0 6*N 0")),
+        place(&expressions("0 9*N ~0  8 0 0 1 6*N ~1  8 0 0 0 6*N ~2")),
         [4, 4, 2]
     );
 }
@@ -223,8 +222,7 @@ fn number_4_at_the_expressions() {
 /// `ImageSample` with these level form, x and y.
 fn sample(form: u32, x: u32, y: u32) -> [u32; 3] {
     let mut module = with_slot(15, 5, form);
-    module.expressions[TESTED as usize * 11 + 7] = x;
-    module.expressions[TESTED as usize * 11 + 8] = y;
+    tested(&mut module)[7..9].copy_from_slice(&[x, y]);
     place(&module)
 }
 
@@ -257,7 +255,7 @@ fn level_forms_name_x_and_y() {
 /// `ImageQuery` with these form and level.
 fn query(form: u32, level: u32) -> [u32; 3] {
     let mut module = with_slot(17, 1, form);
-    module.expressions[TESTED as usize * 11 + 3] = level;
+    tested(&mut module)[3] = level;
     place(&module)
 }
 
@@ -280,8 +278,7 @@ fn number_5_at_both_kinds_with_any_slots() {
     for kind in [13, 27] {
         for word in [0, 1, 99, N - 1, N] {
             let mut module = with_kind(kind);
-            let first = TESTED as usize * 11 + 1;
-            module.expressions[first..first + 9].fill(word);
+            tested(&mut module)[1..10].fill(word);
             assert_eq!(place(&module), [5, 4, TESTED]);
         }
         let mut later = with_kind(kind);
@@ -433,12 +430,13 @@ fn number_7_at_each_type_behind_an_expression() {
     ] {
         for kind in [5, 6, 7, 8, 28, 29, 30] {
             let mut module = with_kind(kind);
-            module.types.extend(words("2 0 0 1 0  0 0 N N 0"));
-            module.overrides.extend([0, 0, dep, 0]);
+            module.types.extend(words("2 0 0 1 ~1  0 0 N N ~2"));
+            module.overrides.extend([0, 0, dep]);
+            module.overrides.extend(tail(2));
             match kind {
                 5 => module.constants[1] = 2,
                 6 => module.overrides[1] = 2,
-                _ => module.expressions[TESTED as usize * 11 + 1] = 2,
+                _ => tested(&mut module)[1] = 2,
             }
             assert_eq!(place(&module), answer, "{kind} {dep}");
         }
@@ -449,11 +447,11 @@ fn number_7_at_each_type_behind_an_expression() {
 fn what_nothing_names_has_no_order() {
     // The override of type 1 has the last init; constant, override and global of it are accepted.
     let accepted = module([
-        "0 0 N N 0  2 0 0 0 0",
-        "0 1 1 0",
-        "0 0 1 0  0 1 1 0",
-        "1 1 0",
-        "0 9*N 0  0 9*N 0",
+        "0 0 N N ~0  2 0 0 0 ~0",
+        "0 1 1 ~0",
+        "0 0 1 ~0  0 1 1 ~0",
+        "1 1 ~0",
+        "0 9*N ~0  0 9*N ~0",
         "",
         "",
         "",
@@ -469,9 +467,9 @@ fn numbers_are_tried_in_turn() {
     module.mentions.resize(2 * (Area::Mentions.limit() + 1), 0); // 2
     maps.overrides = HandleMap::from_words(vec![7]); // 3
     module.mentions[0] = 5; // 4
-    module.expressions.extend(words("13 9*N 0")); // 5
+    module.expressions.extend(words("13 9*N ~0")); // 5
     module.constants[2] = 99; // 6
-    module.types[7] = 1; // 7
+    module.types[Area::Types.width() + 2] = 1; // 7
     maps.expressions = HandleMap::from_words(vec![7; 7]);
     assert_eq!(place_with(&module, &maps), [1, 3, 0]);
     module.globals.pop();
@@ -482,29 +480,29 @@ fn numbers_are_tried_in_turn() {
     assert_eq!(place_with(&module, &maps), [4, 7, 0]);
     module.mentions[0] = 0;
     assert_eq!(place_with(&module, &maps), [5, 4, 6]);
-    module.expressions.truncate(66);
+    module.expressions.truncate(6 * Area::Expressions.width());
     assert_eq!(place_with(&module, &maps), [6, 1, 0]);
     module.constants[2] = 0;
     assert_eq!(place_with(&module, &maps), [7, 0, 1]);
-    module.types[7] = 0;
+    module.types[Area::Types.width() + 2] = 0;
     assert_eq!(place_with(&module, &maps), [0, 0, 0]);
 }
 
 #[test]
 fn the_first_area_and_the_lowest_record_are_named() {
     let mut module = good();
-    for (area, word, answer) in [
-        (Area::Mentions, 8, [4, 7, 4]),
-        (Area::Mentions, 2, [4, 7, 1]),
-        (Area::Expressions, 33, [4, 4, 3]),
-        (Area::Expressions, 0, [4, 4, 0]),
-        (Area::Overrides, 4, [4, 2, 1]),
-        (Area::Constants, 0, [4, 1, 0]),
-        (Area::Types, 20, [4, 0, 4]),
-        (Area::Types, 5, [4, 0, 1]),
+    for (area, record) in [
+        (Area::Mentions, 4),
+        (Area::Mentions, 1),
+        (Area::Expressions, 3),
+        (Area::Expressions, 0),
+        (Area::Overrides, 1),
+        (Area::Constants, 0),
+        (Area::Types, 4),
+        (Area::Types, 1),
     ] {
-        module.area_mut(area)[word] = N;
-        assert_eq!(place(&module), answer);
+        module.area_mut(area)[record * area.width()] = N;
+        assert_eq!(place(&module), [4, area.code(), record as u32]);
     }
 }
 
@@ -521,7 +519,7 @@ fn text_with(module: &Module, maps: &Maps) -> String {
 fn refusals_without_a_record_tell_the_lengths() {
     assert_eq!(
         text(&module(["", "", "", "0 N", "", "", "", ""])),
-        "refusal 1 at globals: the area's length isn't a multiple of its record width (length 2, width 3)"
+        "refusal 1 at globals: the area's length isn't a multiple of its record width (length 2, width 5)"
     );
     assert_eq!(
         text(&repeated(Area::Mentions, "0 0", 65_537)),
@@ -538,41 +536,40 @@ fn refusals_without_a_record_tell_the_lengths() {
 }
 
 #[test]
-fn refusals_with_a_record_tell_its_words() {
-    let mut named = good();
-    named.overrides[4] = 2;
+fn refusals_with_a_record_tell_its_words_and_its_span() {
+    let named = module(["", "", "1 0 N 60 9 7  2 0 N 70 8 8", "", "", "", "", ""]);
     assert_eq!(
         text(&named),
-        "refusal 4 at overrides, record 1: named is neither 0 nor 1 (words: 2 0 N 8)"
+        "refusal 4 at overrides, record 1, span 70,8: named is neither 0 nor 1 (words: 2 0 N 70 8 8)"
     );
     assert_eq!(
-        text(&module(["", "", "", "", "34 9*N 5", "", "", ""])),
-        "refusal 4 at expressions, record 0: the kind, the form, an unused slot or the run breaks the rules \
-         (words: 34 no kind N N N N N N N N N 5)"
+        text(&module(["", "", "", "", "34 9*N 40 2 5", "", "", ""])),
+        "refusal 4 at expressions, record 0, span 40,2: the kind, the form, an unused slot or the run breaks \
+         the rules (words: 34 no kind N N N N N N N N N 40 2 5)"
     );
     assert_eq!(
-        text(&module(["N 0 N N N", "", "", "", "", "", "", ""])),
-        "refusal 4 at types, record 0: the kind, flags, an unused slot or the run breaks the rules \
-         (words: N no kind 0 N N N)"
+        text(&module(["7*N", "", "", "", "", "", "", ""])),
+        "refusal 4 at types, record 0, span N,N: the kind, flags, an unused slot or the run breaks the rules \
+         (words: N no kind N N N N N N)"
     );
     assert_eq!(
         text(&module(["", "", "", "", "", "", "", "9 0"])),
         "refusal 4 at mentions, record 0: the mention's area isn't 0 to 4 (words: 9 0)"
     );
     assert_eq!(
-        text(&module(["", "", "", "", "27 3 8*N 1", "", "", ""])),
+        text(&module(["", "", "", "", "27 3 8*N 0 0 1", "", "", ""])),
         "refusal 5 at expressions, record 0: GlobalVariable and CallResult are not of module scope \
-         (words: 27 CallResult 3 N N N N N N N N 1)"
+         (words: 27 CallResult 3 N N N N N N N N 0 0 1)"
     );
     assert_eq!(
-        text(&module(["", "", "", "2 N 0", "", "", "", ""])),
-        "refusal 6 at globals, record 0: a handle that must be there is N, or a handle isn't below its area's \
-         record count (words: 2 N 0)"
+        text(&module(["", "", "", "2 N 0 1 0", "", "", "", ""])),
+        "refusal 6 at globals, record 0, span 0,1: a handle that must be there is N, or a handle isn't below \
+         its area's record count (words: 2 N 0 1 0)"
     );
     assert_eq!(
-        text(&module(["1 0 0 N 3", "", "", "", "", "", "", ""])),
-        "refusal 7 at types, record 0: the type isn't well ordered: something that it rests on must stand \
-         before it (words: 1 Base 0 0 N 3)"
+        text(&module(["1 0 0 N 1 0 3", "", "", "", "", "", "", ""])),
+        "refusal 7 at types, record 0, span 1,0: the type isn't well ordered: something that it rests on must \
+         stand before it (words: 1 Base 0 0 N 1 0 3)"
     );
 }
 
@@ -581,16 +578,66 @@ fn refusals_with_a_run_tell_its_words() {
     let mut component = good();
     component.components[2] = 9;
     let refusal = refusal_with(&component, &long_maps(&component)).expect("refused");
-    assert_eq!(refusal.words, words("8 3 2 1 6*N 16"));
+    assert_eq!(refusal.words, words("8 3 2 1 6*N ~16"));
     assert_eq!(refusal.run, [9]);
+    let compose = "0 9*N 0 0 0  8 0 0 2 6*N 30 4 16";
     assert_eq!(
-        refusal.to_string(),
-        "refusal 6 at expressions, record 5: a handle that must be there is N, or a handle isn't below its \
-         area's record count (words: 8 Compose 3 2 1 N N N N N N 16; run: 9)"
+        text(&module(["0 0 N N ~0", "", "", "", compose, "", "0 9", ""])),
+        "refusal 6 at expressions, record 1, span 30,4: a handle that must be there is N, or a handle isn't \
+         below its area's record count (words: 8 Compose 0 0 2 N N N N N N 30 4 16; run: 0 9)"
     );
     assert_eq!(
-        text(&module(["3 0 0 18 0", "", "", "", "", "18*0", "", ""])),
+        text(&module(["3 0 0 18 0 0 0", "", "", "", "", "18*0", "", ""])),
         "refusal 7 at types, record 0: the type isn't well ordered: something that it rests on must stand \
-         before it (words: 3 Members 0 0 18 0; run: 0 0 0 0 0 0 0 0 0 0 0 0 0 0 0 0 and 2 more)"
+         before it (words: 3 Members 0 0 18 0 0 0; run: 0 0 0 0 0 0 0 0 0 0 0 0 0 0 0 0 and 2 more)"
     );
+}
+
+/// The span that the refusal of `module` tells.
+fn told(module: &Module, maps: &Maps) -> Option<Span> {
+    let refusal = refusal_with(module, maps).expect("refused");
+    let in_words = refusal.to_string().contains(", span ");
+    assert_eq!(in_words, refusal.span().is_some_and(Span::is_given));
+    refusal.span()
+}
+
+#[test]
+fn a_refusal_about_a_record_tells_its_span() {
+    let first_tag = [1, 6, 7, 9, 11];
+    for (area, first) in Area::ALL.into_iter().zip(first_tag) {
+        for record in 0..good().count(area) {
+            // A type handle that isn't there, or a kind.
+            let word = match area {
+                Area::Constants | Area::Overrides => 1,
+                _ => 0,
+            };
+            let mut module = good();
+            module.area_mut(area)[record * area.width() + word] = 99;
+            let expected = span(first + record as u32);
+            assert_eq!(told(&module, &long_maps(&module)), Some(expected));
+            assert_eq!(module.span(area, record as u32), Some(expected));
+        }
+    }
+}
+
+#[test]
+fn a_refusal_about_no_record_or_a_mention_tells_no_span() {
+    for area in Area::ALL.into_iter().filter(|area| area.width() > 1) {
+        let mut longer = good();
+        longer.area_mut(area).push(0); // 1
+        assert_eq!(told(&longer, &long_maps(&longer)), None);
+    }
+    let many = repeated(Area::Types, "0 0 N N ~5", Area::Types.limit() + 1); // 2
+    assert_eq!(told(&many, &long_maps(&many)), None);
+    assert_eq!(told(&good(), &maps_with(0, 0)), None); // 3
+    for pool in [Area::Members, Area::Components] {
+        let mut longer = good();
+        longer.area_mut(pool).push(0);
+        assert_eq!(told(&longer, &long_maps(&longer)), None);
+        assert_eq!(longer.span(pool, 0), None);
+    }
+    let mut mention = good();
+    mention.mentions[0] = 9;
+    assert_eq!(told(&mention, &long_maps(&mention)), None);
+    assert_eq!(mention.span(Area::Mentions, 0), None);
 }

@@ -2,9 +2,9 @@
 
 use crate::{
     format::singular,
-    references::{elements, kept, references, roots, Reference},
+    references::{elements, kept, kind, references, roots, span, Reference},
 };
-use cadnohal::{kinds, Area, Element, KeepUnused, Maps, Module};
+use cadnohal::{Element, KeepUnused, Maps, Module};
 use std::{collections::HashSet, fmt::Write};
 
 /// Draws `module`, as it was before the pass that gave `maps`: kept elements are filled, dropped ones
@@ -40,13 +40,13 @@ fn id(element: Element) -> String {
     format!("{}_{}", singular(element.area()), element.index())
 }
 
-/// The element's name; for an expression also its kind.
+/// The element's name; below it an expression's kind, and the span if there is one.
 fn label(module: &Module, element: Element) -> String {
-    let (area, index) = (element.area(), element.index());
-    let name = format!("{} {index}", singular(area));
-    let words = module.record(area, index);
-    match words.and_then(|words| kinds::kind_of(area, words)) {
-        Some(kind) if area == Area::Expressions => format!("{name}\\n{}", kind.name),
-        _ => name,
-    }
+    let name = format!("{} {}", singular(element.area()), element.index());
+    let known = [kind(module, element), span(module, element)];
+    let lines: Vec<String> = [name]
+        .into_iter()
+        .chain(known.into_iter().flatten())
+        .collect();
+    lines.join("\\n")
 }

@@ -16,6 +16,19 @@ impl fmt::Display for Name {
     }
 }
 
+/// An expression's kind; `None` for other elements.
+pub fn kind(module: &Module, element: Element) -> Option<String> {
+    let record = module.record(element.area(), element.index())?;
+    let kind = kinds::kind_of(element.area(), record)?;
+    (element.area() == Area::Expressions).then(|| kind.name.into())
+}
+
+/// An element's span, as in `span 412,9`; `None` if it has none.
+pub fn span(module: &Module, element: Element) -> Option<String> {
+    let span = module.span(element.area(), element.index())?;
+    span.is_given().then(|| format!("span {span}"))
+}
+
 /// One reference of a record.
 #[derive(Clone, Debug, PartialEq, Eq)]
 pub struct Reference {

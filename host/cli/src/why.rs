@@ -2,9 +2,9 @@
 
 use crate::{
     failure::Failure,
-    references::{kept, Cause, Name, Reached, Reason},
+    references::{kept, kind, span, Cause, Name, Reached, Reason},
 };
-use cadnohal::{kinds, Area, Element, KeepUnused, Maps, Module};
+use cadnohal::{Element, KeepUnused, Maps, Module};
 
 /// Says why `element` is kept, or that it isn't. `module` is as it was before the pass that gave
 /// `maps`; a pass that kept other elements than the references lead to is a fault of this program.
@@ -18,7 +18,8 @@ pub fn why(
     if let Some(other) = reached.disagrees(module, maps) {
         return Err(Failure::Internal(disagreement(other, kept(maps, other))));
     }
-    let name = Name(element);
+    let about = about([None, span(module, element)]);
+    let name = format!("{}{about}", Name(element));
     if reached.cause(element).is_none() {
         return Ok(format!("{name} is dropped: no root leads to it\n"));
     }
@@ -51,11 +52,8 @@ fn step(module: &Module, element: Element, cause: &Cause) -> String {
     match cause {
         Cause::Root(reason) => format!("{name} is a root: {}", because(*reason)),
         Cause::Reference(from, by) => {
-            format!(
-                "{}{} refers to {name} by {by}",
-                Name(*from),
-                kind(module, *from)
-            )
+            let about = about([kind(module, *from), span(module, *from)]);
+            format!("{}{about} refers to {name} by {by}", Name(*from))
         }
     }
 }
@@ -72,12 +70,12 @@ fn because(reason: Reason) -> String {
     }
 }
 
-/// An expression's kind in brackets, nothing for other elements.
-fn kind(module: &Module, element: Element) -> String {
-    let words = module.record(element.area(), element.index());
-    match words.and_then(|words| kinds::kind_of(element.area(), words)) {
-        Some(kind) if element.area() == Area::Expressions => format!(" ({})", kind.name),
-        _ => String::new(),
+/// What is known of an element, in brackets; nothing if nothing is.
+fn about(known: [Option<String>; 2]) -> String {
+    let known: Vec<String> = known.into_iter().flatten().collect();
+    match known.is_empty() {
+        true => String::new(),
+        false => format!(" ({})", known.join(", ")),
     }
 }
 
@@ -85,6 +83,7 @@ fn kind(module: &Module, element: Element) -> String {
 mod tests {
     use super::*;
     use crate::format::read;
+    use cadnohal::Area;
 
     /// Type 0 is mentioned, type 1 isn't.
     const TWO_TYPES: &[u8] = b"type leaf\ntype leaf tag=1\nmention type=0";

@@ -5,7 +5,7 @@ mod common;
 
 use cadnohal::{Area, Module, N};
 use cadnohal_cli::format::{read, write};
-use common::{run, Done, Good};
+use common::{run, tail, Done, Good};
 use std::time::{Duration, Instant};
 
 fn done(out: &str) -> Done {
@@ -19,21 +19,21 @@ fn done(out: &str) -> Done {
 /// The module of case 1.
 const CASE_1: &str = "\
 type leaf tag=10
-type base=0 override=0 named tag=11
-override type=0 init=1
-expression Literal tag=20
-expression Literal tag=21
+type base=0 override=0 named tag=11 span=17,4
+override type=0 init=1 span=N,0
+expression Literal tag=20 span=30,1
+expression Literal span=35,2 tag=21
 ";
 
 #[test]
 fn cases_1_and_2() {
     let kept = "\
 type leaf tag=10  # type 0
-type named base=0 override=0 tag=11  # type 1
+type named base=0 override=0 span=17,4 tag=11  # type 1
 
-override type=0 init=0  # override 0
+override type=0 init=0 span=N,0  # override 0
 
-expression Literal tag=21  # expression 0
+expression Literal span=35,2 tag=21  # expression 0
 ";
     assert_eq!(run(&["compact", "--keep-unused", "-"], CASE_1), done(kept));
     assert_eq!(run(&["compact", "-"], CASE_1), done(""));
@@ -156,12 +156,14 @@ fn full() -> Module {
         };
         let run = (0..count).map(|k| (handle * 7 + k * 13) % handle);
         let (members, components) = (module.members.len(), module.components.len());
-        module.types.extend([3, 1, members as u32, count, handle]);
-        module.constants.extend([1, handle, handle, 0]);
-        module.overrides.extend([1, handle, handle, 0]);
-        module.globals.extend([handle, handle, 0]);
-        let compose = [8, handle, components as u32, count, N, N, N, N, N, N, 0];
+        module.types.extend([3, 1, members as u32, count]);
+        module.types.extend(tail(handle));
+        module.constants.extend([1, handle, handle, 0, 0, 0]);
+        module.overrides.extend([1, handle, handle, 0, 0, 0]);
+        module.globals.extend([handle, handle, 0, 0, 0]);
+        let compose = [8, handle, components as u32, count, N, N, N, N, N, N];
         module.expressions.extend(compose);
+        module.expressions.extend([0, 0, 0]);
         module.members.extend(run.clone());
         module.components.extend(run);
         module.mentions.extend([4, handle]);

@@ -3,6 +3,11 @@
 
 mod common;
 
+use cadnohal::Span;
+use cadnohal_cli::{
+    format::{read, singular},
+    references::elements,
+};
 use common::{example, run, Done};
 use std::fs;
 
@@ -39,8 +44,8 @@ fn all_are_accepted() {
 fn the_refused_ones_are_refused() {
     let texts = texts("refused");
     let places = [
-        "early.txt:8: refusal 7 at expressions, record 0: ",
-        "kind.txt:5: refusal 4 at expressions, record 1: ",
+        "early.txt:16: refusal 7 at expressions, record 0, span 91,6: ",
+        "kind.txt:5: refusal 4 at expressions, record 1, span 64,9: ",
         "order.txt:4: refusal 7 at types, record 0: ",
     ];
     assert_eq!(texts.len(), places.len());
@@ -48,6 +53,32 @@ fn the_refused_ones_are_refused() {
         let Done { status, out, err } = run(&["check", path], "");
         assert_eq!((status, out.as_str()), (1, ""), "{path}");
         assert!(err.contains(place), "{err}");
+    }
+}
+
+/// What a span covers of a text.
+fn covered(text: &str, span: Span) -> Option<&str> {
+    text.get(span.start as usize..)?.get(..span.length as usize)
+}
+
+#[test]
+fn a_refusal_points_into_the_generators_text() {
+    let path = example("refused/early.txt");
+    let text = fs::read_to_string(path).expect("the example is there");
+    let quoted = text.lines().filter_map(|line| line.strip_prefix("#   |"));
+    let generated = quoted.collect::<Vec<_>>().join("\n");
+    let module = read(text.as_bytes()).expect("it can be read").module;
+    let refusal = module.check().expect_err("it is refused");
+    let refused = refusal.span().and_then(|span| covered(&generated, span));
+    assert_eq!(refused, Some("Gain()"));
+    // A comment behind each record quotes what its span covers.
+    for element in elements(&module) {
+        let (area, index) = (element.area(), element.index());
+        let records = text.lines().filter(|line| line.starts_with(singular(area)));
+        let line = records.into_iter().nth(index as usize).expect("a line");
+        let comment = line.split_once(&format!("# {index}  "));
+        let span = module.span(area, index).expect("a span");
+        assert_eq!(covered(&generated, span), comment.map(|(_, quoted)| quoted));
     }
 }
 

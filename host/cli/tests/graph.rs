@@ -8,10 +8,10 @@ use common::{run, Done};
 /// The module of case 1.
 const CASE_1: &str = "\
 type leaf tag=10
-type named base=0 override=0 tag=11
+type named base=0 override=0 span=17,4 tag=11
 override type=0 init=1
 expression Literal tag=20
-expression Literal tag=21
+expression Literal span=35,N tag=21
 ";
 
 fn graph(arguments: &[&str], text: &str) -> String {
@@ -26,10 +26,10 @@ fn case_1_with_keep_unused() {
   rankdir=LR;
   node [shape=box];
   type_0 [label="type 0", style=filled];
-  type_1 [label="type 1", style=filled, peripheries=2];
+  type_1 [label="type 1\nspan 17,4", style=filled, peripheries=2];
   override_0 [label="override 0", style=filled];
   expression_0 [label="expression 0\nLiteral", style=dashed];
-  expression_1 [label="expression 1\nLiteral", style=filled];
+  expression_1 [label="expression 1\nLiteral\nspan 35,N", style=filled];
   type_1 -> type_0 [label="base"];
   type_1 -> override_0 [label="override"];
   override_0 -> type_0 [label="type"];
@@ -46,10 +46,10 @@ fn case_1_without() {
   rankdir=LR;
   node [shape=box];
   type_0 [label="type 0", style=dashed];
-  type_1 [label="type 1", style=dashed];
+  type_1 [label="type 1\nspan 17,4", style=dashed];
   override_0 [label="override 0", style=dashed];
   expression_0 [label="expression 0\nLiteral", style=dashed];
-  expression_1 [label="expression 1\nLiteral", style=dashed];
+  expression_1 [label="expression 1\nLiteral\nspan 35,N", style=dashed];
   type_1 -> type_0 [label="base"];
   type_1 -> override_0 [label="override"];
   override_0 -> type_0 [label="type"];

@@ -1,7 +1,7 @@
 //! docs/FORMAT.md says what the reader does: its tables and its example are held to it.
 #![forbid(unsafe_code)]
 
-use cadnohal::N;
+use cadnohal::{Area, Span, N};
 use cadnohal_cli::format::{read, Text};
 use std::{fs, path::PathBuf};
 
@@ -108,11 +108,12 @@ fn the_lines_of_the_table_of_records() {
     let lines: Vec<&str> = records.map(|row| row[0].as_str()).collect();
     assert_eq!(lines.len(), 9);
     let module = text(&lines.join("\n")).module;
-    let kinds: Vec<u32> = module.types.chunks(5).map(|words| words[0]).collect();
+    let types = module.types.chunks(Area::Types.width());
+    let kinds: Vec<u32> = types.map(|words| words[0]).collect();
     assert_eq!(kinds, [0, 1, 2, 3]);
-    assert_eq!(module.constants, [0, 0, 3, 0]);
-    assert_eq!(module.overrides, [0, 0, N, 0]);
-    assert_eq!(module.globals, [0, N, 0]);
+    assert_eq!(module.constants, [0, 0, 3, 0, 0, 0]);
+    assert_eq!(module.overrides, [0, 0, N, 0, 0, 0]);
+    assert_eq!(module.globals, [0, N, 0, 0, 0]);
     assert_eq!(module.expressions[..2], [14, 0]);
     assert_eq!(module.mentions, [0, 0]);
 }
@@ -131,7 +132,13 @@ fn the_example() {
     assert_eq!(module.check(), Ok(()));
     assert_eq!(module.members, [0, 1, 1]);
     assert_eq!(module.components, [0, 1, 1]);
-    assert_eq!(module.expressions[33..], [15, 0, 0, 1, N, N, 4, 1, 1, N, 0]);
+    let sample = [15, 0, 0, 1, N, N, 4, 1, 1, N, 0, 0, 0];
+    assert_eq!(module.record(Area::Expressions, 3), Some(&sample[..]));
+    let compose = Span {
+        start: 412,
+        length: 9,
+    };
+    assert_eq!(module.span(Area::Expressions, 2), Some(compose));
 }
 
 #[test]
@@ -154,6 +161,7 @@ fn the_messages() {
             "expression ImageSample level=gradient:1",
             "'gradient' takes two numbers",
         ),
+        ("type leaf span=1", "'span' takes two numbers"),
     ];
     let paper = paper();
     for (line, message) in cases {

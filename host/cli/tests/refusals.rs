@@ -28,15 +28,15 @@ fn refused(text: &str, place: &str) {
     }
 }
 
-/// One record of each area, all good.
+/// One record of each area, all good, with spans that no refusal tells.
 const GOOD: &str = "\
-type leaf named tag=1
-type members=0,0 tag=2
-constant named type=0 init=0 tag=3
-override named type=0 tag=4
-global type=1 init=0 tag=5
-expression Literal tag=6
-expression Compose type=1 components=0 tag=7
+type leaf named span=101,1 tag=1
+type members=0,0 span=102,2 tag=2
+constant named type=0 init=0 span=103,3 tag=3
+override named type=0 span=104,4 tag=4
+global type=1 init=0 span=105,5 tag=5
+expression Literal span=106,6 tag=6
+expression Compose type=1 components=0 span=107,7 tag=7
 mention expression=1
 ";
 
@@ -53,15 +53,8 @@ fn the_module_that_they_start_from_is_accepted() {
 
 #[test]
 fn number_1() {
-    for (area, width) in [
-        ("types", 5),
-        ("constants", 4),
-        ("overrides", 4),
-        ("globals", 3),
-        ("expressions", 11),
-        ("mentions", 2),
-    ] {
-        for words in 1..width {
+    for area in Area::ALL.into_iter().filter(|area| area.width() > 1) {
+        for words in 1..area.width() {
             let text = format!("{GOOD}raw {area}{}", " 0".repeat(words));
             refused(&text, &format!("<stdin>: refusal 1 at {area}: "));
         }
@@ -109,26 +102,26 @@ fn number_3() {
 #[test]
 fn number_4() {
     let cases = [
-        ("raw types 4 0 N N 0", "types, record 2"),
-        ("raw types 0 4 N N 0", "types, record 2"),
-        ("raw types 0 0 0 N 0", "types, record 2"),
-        ("raw types 3 0 0 1 0", "types, record 2"),
-        ("raw constants 2 0 0 0", "constants, record 1"),
-        ("raw overrides 2 0 N 0", "overrides, record 1"),
+        ("raw types 4 0 N N 0 0 0", "types, record 2"),
+        ("raw types 0 4 N N 412 9 0", "types, record 2, span 412,9"),
+        ("raw types 0 0 0 N 0 1 0", "types, record 2, span 0,1"),
+        ("raw types 3 0 0 1 0 0 9", "types, record 2"),
+        ("raw constants 2 0 0 1 0 0", "constants, record 1, span 1,0"),
+        ("raw overrides 2 0 N N N 0", "overrides, record 1, span N,N"),
         (
-            "raw expressions 34 N N N N N N N N N 0",
+            "raw expressions 34 N N N N N N N N N N 0 0",
+            "expressions, record 2, span N,0",
+        ),
+        (
+            "raw expressions 0 0 N N N N N N N N 0 0 0",
             "expressions, record 2",
         ),
         (
-            "raw expressions 0 0 N N N N N N N N 0",
-            "expressions, record 2",
+            "raw expressions 15 0 0 0 N N 5 N N N 412 9 0",
+            "expressions, record 2, span 412,9",
         ),
         (
-            "raw expressions 15 0 0 0 N N 5 N N N 0",
-            "expressions, record 2",
-        ),
-        (
-            "raw expressions 17 0 1 0 N N N N N N 0",
+            "raw expressions 17 0 1 0 N N N N N N 0 0 0",
             "expressions, record 2",
         ),
         ("raw mentions 5 0", "mentions, record 1"),
@@ -147,13 +140,18 @@ fn number_4() {
 
 #[test]
 fn number_5() {
-    for line in [
-        "expression GlobalVariable",
-        "expression CallResult",
-        "raw expressions 13 1 2 3 4 5 6 7 8 9 0",
-    ] {
+    let cases = [
+        ("expression GlobalVariable", ""),
+        ("expression CallResult span=412,9", ", span 412,9"),
+        (
+            "raw expressions 13 1 2 3 4 5 6 7 8 9 10 11 0",
+            ", span 10,11",
+        ),
+    ];
+    for (line, span) in cases {
         let text = format!("{GOOD}\n\n{line}");
-        refused(&text, "<stdin>:11: refusal 5 at expressions, record 2: ");
+        let place = format!("<stdin>:11: refusal 5 at expressions, record 2{span}: ");
+        refused(&text, &place);
     }
 }
 
@@ -161,13 +159,22 @@ fn number_5() {
 fn number_6() {
     let cases = [
         ("type base=3", "types, record 2"),
-        ("type base=N", "types, record 2"),
+        ("type base=N span=1,2", "types, record 2, span 1,2"),
         ("type members=3", "types, record 2"),
         ("type base=0 override=1", "types, record 2"),
-        ("constant type=0 init=N", "constants, record 1"),
-        ("override type=2", "overrides, record 1"),
-        ("global type=0 init=2", "globals, record 1"),
-        ("expression Math arg=0 arg2=3", "expressions, record 2"),
+        (
+            "constant type=0 init=N span=3,4",
+            "constants, record 1, span 3,4",
+        ),
+        ("override type=2 span=5,6", "overrides, record 1, span 5,6"),
+        (
+            "global type=0 init=2 span=7,8",
+            "globals, record 1, span 7,8",
+        ),
+        (
+            "expression Math arg=0 arg2=3 span=9,10",
+            "expressions, record 2, span 9,10",
+        ),
         (
             "expression ImageSample image=0 sampler=0 coordinate=0 level=exact:N",
             "expressions, record 2",
@@ -190,9 +197,12 @@ fn number_6() {
 #[test]
 fn number_7() {
     let cases = [
-        ("type base=2", "types, record 2"),
+        ("type base=2 span=412,9", "types, record 2, span 412,9"),
         ("type members=2", "types, record 2"),
-        ("expression Unary expr=2", "expressions, record 2"),
+        (
+            "expression Unary expr=2 span=412,9",
+            "expressions, record 2, span 412,9",
+        ),
         (
             "expression Compose type=0 components=0,2",
             "expressions, record 2",
@@ -226,8 +236,11 @@ fn cases_4_and_5_of_document_01() {
 #[test]
 fn lower_numbers_come_first() {
     // Case 10: a type handle out of range and an expression of kind 34.
-    let text = "type base=7\nraw expressions 34 N N N N N N N N N 0\n";
-    refused(text, "<stdin>:2: refusal 4 at expressions, record 0: ");
+    let text = "type base=7 span=1,2\nraw expressions 34 N N N N N N N N N 3 4 0\n";
+    refused(
+        text,
+        "<stdin>:2: refusal 4 at expressions, record 0, span 3,4: ",
+    );
     refused(
         &format!("{text}room types 0"),
         "<stdin>: refusal 3 at types: ",
@@ -240,8 +253,8 @@ fn lower_numbers_come_first() {
 
 #[test]
 fn a_record_over_several_lines_is_refused_at_its_first() {
-    let text = "raw types 0 0\nraw types N N 0 9\n\nraw types 0 N N 0";
-    refused(text, "<stdin>:2: refusal 4 at types, record 1: ");
+    let text = "raw types 0 0\nraw types N N 1 2 0 9\n\nraw types 0 N N 3 4 0";
+    refused(text, "<stdin>:2: refusal 4 at types, record 1, span 3,4: ");
 }
 
 #[test]

@@ -68,20 +68,21 @@ const KINDS: [(&str, &[u32]); 34] = [
     ("CooperativeMultiplyAdd a=7 b=8 c=9", &[33, 7, 8, 9]),
 ];
 
-/// An expression's eleven words from the first ones and the tag.
-fn expression(first: &[u32], tag: u32) -> Vec<u32> {
+/// An expression's words from the first ones and the tail.
+fn expression(first: &[u32], tail: [u32; 3]) -> Vec<u32> {
     let mut words = first.to_vec();
     words.resize(10, N);
-    words.push(tag);
+    words.extend(tail);
     words
 }
 
 #[test]
 fn every_kind_of_expression() {
     for (text, first) in KINDS {
-        let line = format!("expression {text} tag=99");
+        let line = format!("expression {text} span=412,9 tag=99");
         let module = words_of(&line);
-        assert_eq!(module.expressions, expression(first, 99), "{line}");
+        let words = expression(first, [412, 9, 99]);
+        assert_eq!(module.expressions, words, "{line}");
         let components: &[u32] = if first[0] == 8 { &[3, N, 3] } else { &[] };
         assert_eq!(module.components, components, "{line}");
         assert_eq!(round(&module), format!("{line}  # expression 0\n"));
@@ -102,7 +103,8 @@ fn forms_of_level_and_query() {
     ];
     for (level, [form, x, y]) in levels {
         let module = words_of(&format!("{sample} level={level}"));
-        assert_eq!(module.expressions, [15, 1, 2, 3, N, N, form, x, y, N, 0]);
+        let words = expression(&[15, 1, 2, 3, N, N, form, x, y], [0; 3]);
+        assert_eq!(module.expressions, words);
         let line = format!("{sample} level={level}  # expression 0\n");
         assert_eq!(round(&module), line);
     }
@@ -116,11 +118,12 @@ fn forms_of_level_and_query() {
     for (query, [form, level]) in queries {
         let line = format!("expression ImageQuery image=1 query={query}");
         let module = words_of(&line);
-        assert_eq!(module.expressions, expression(&[17, 1, form, level], 0));
+        let words = expression(&[17, 1, form, level], [0; 3]);
+        assert_eq!(module.expressions, words);
         assert_eq!(round(&module), format!("{line}  # expression 0\n"));
     }
     let long = words_of("expression ImageQuery image=1 query=size:N");
-    assert_eq!(long.expressions, expression(&[17, 1, 0, N], 0));
+    assert_eq!(long.expressions, expression(&[17, 1, 0, N], [0; 3]));
 }
 
 #[test]
@@ -136,7 +139,7 @@ fn optional_slots_left_out_are_n() {
     ];
     for (text, first) in cases {
         let module = words_of(&format!("expression {text}"));
-        assert_eq!(module.expressions, expression(first, 0), "{text}");
+        assert_eq!(module.expressions, expression(first, [0; 3]), "{text}");
         assert_eq!(
             round(&module),
             format!("expression {text}  # expression 0\n")
@@ -147,16 +150,16 @@ fn optional_slots_left_out_are_n() {
 #[test]
 fn the_other_records() {
     let text = "\
-type leaf tag=10
+type leaf span=1,2 tag=10
 type named base=0
 type abstract base=0 override=1 tag=N
-type named abstract members=0,1,1 tag=3
-type members=
-constant named type=0 init=3 tag=4
+type named abstract members=0,1,1 span=N,N tag=3
+type members= span=0,1
+constant named type=0 init=3 span=3,0 tag=4
 constant type=N init=N
-override type=0
+override type=0 span=N,0
 override named type=0 init=2 tag=5
-global type=0 tag=7
+global type=0 span=7,8 tag=7
 global type=1 init=2
 mention type=0
 mention constant=1
@@ -166,13 +169,19 @@ mention expression=N
 ";
     let module = words_of(text);
     let types = [
-        0, 0, N, N, 10, 1, 1, 0, N, 0, 2, 2, 0, 1, N, 3, 3, 0, 3, 3, 3, 0, 3, 0, 0,
+        [0, 0, N, N, 1, 2, 10],
+        [1, 1, 0, N, 0, 0, 0],
+        [2, 2, 0, 1, 0, 0, N],
+        [3, 3, 0, 3, N, N, 3],
+        [3, 0, 3, 0, 0, 1, 0],
     ];
-    assert_eq!(module.types, types);
+    assert_eq!(module.types, types.concat());
     assert_eq!(module.members, [0, 1, 1]);
-    assert_eq!(module.constants, [1, 0, 3, 4, 0, N, N, 0]);
-    assert_eq!(module.overrides, [0, 0, N, 0, 1, 0, 2, 5]);
-    assert_eq!(module.globals, [0, N, 7, 1, 2, 0]);
+    let constants = [[1, 0, 3, 3, 0, 4], [0, N, N, 0, 0, 0]];
+    assert_eq!(module.constants, constants.concat());
+    let overrides = [[0, 0, N, N, 0, 0], [1, 0, 2, 0, 0, 5]];
+    assert_eq!(module.overrides, overrides.concat());
+    assert_eq!(module.globals, [0, N, 7, 8, 7, 1, 2, 0, 0, 0]);
     assert_eq!(module.mentions, [0, 0, 1, 1, 2, 2, 3, 3, 4, N]);
     assert!(module.expressions.is_empty() && module.components.is_empty());
     let written = round(&module);
@@ -186,18 +195,22 @@ mention expression=N
 
 #[test]
 fn keys_in_any_order() {
-    let module = words_of(" \tconstant tag=5   init=3\tnamed type=0# tag=9\r\n\n\r\n#\n");
-    assert_eq!(module.constants, [1, 0, 3, 5]);
-    let module = words_of("type tag=5 override=2 abstract base=1 named");
-    assert_eq!(module.types, [2, 3, 1, 2, 5]);
+    let text = " \tconstant tag=5   init=3\tspan=6,7 named type=0# tag=9\r\n\n\r\n#\n";
+    assert_eq!(words_of(text).constants, [1, 0, 3, 6, 7, 5]);
+    let module = words_of("type tag=5 override=2 abstract base=1 span=6,7 named");
+    assert_eq!(module.types, [2, 3, 1, 2, 6, 7, 5]);
+    let module = words_of("type span=4294967295,007 leaf");
+    assert_eq!(module.types, [0, 0, N, N, N, 7, 0]);
+    let module = words_of("type leaf span=0,0");
+    assert_eq!(round(&module), "type leaf  # type 0\n");
 }
 
 #[test]
 fn raw_words_stand_as_they_are() {
     let text =
-        "raw types 1 2 N\nraw types\nraw types 4294967295 007\nraw mentions 9\nraw components 3";
+        "raw types 1 2 N\nraw types\nraw types 4294967295 007 8 N\nraw mentions 9\nraw components 3";
     let module = words_of(text);
-    assert_eq!(module.types, [1, 2, N, N, 7]);
+    assert_eq!(module.types, [1, 2, N, N, 7, 8, N]);
     assert_eq!(module.mentions, [9]);
     assert_eq!(module.components, [3]);
     round(&module);
@@ -208,37 +221,49 @@ fn a_run_starts_at_the_end_of_its_pool() {
     let text = "raw members 8 9\ntype members=4\nraw members 7\ntype members=5,6";
     let module = words_of(text);
     assert_eq!(module.members, [8, 9, 4, 7, 5, 6]);
-    assert_eq!(module.types, [3, 0, 2, 1, 0, 3, 0, 4, 2, 0]);
-    assert_eq!(
-        round(&module),
-        "raw types 3 0 2 1 0  # type 0\nraw types 3 0 4 2 0  # type 1\n\nraw members 8 9 4 7 5 6\n"
-    );
+    let types = [[3, 0, 2, 1, 0, 0, 0], [3, 0, 4, 2, 0, 0, 0]];
+    assert_eq!(module.types, types.concat());
+    let written = "\
+raw types 3 0 2 1 0 0 0  # type 0
+raw types 3 0 4 2 0 0 0  # type 1
+
+raw members 8 9 4 7 5 6
+";
+    assert_eq!(round(&module), written);
 }
 
 #[test]
 fn what_keys_cannot_hold_is_raw() {
-    let cases: [(Area, &[u32]); 17] = [
-        (Area::Types, &[4, 0, N, N, 0]),
-        (Area::Types, &[0, 4, N, N, 0]),
-        (Area::Types, &[0, 0, 0, N, 0]),
-        (Area::Types, &[1, 0, 0, 0, 0]),
-        (Area::Types, &[3, 0, 1, 0, 0]),
-        (Area::Types, &[3, 0, 0, 1, 0]),
-        (Area::Types, &[3, 0, N, N, 0]),
-        (Area::Types, &[0, 0, N, N]),
-        (Area::Constants, &[2, 0, 0, 0]),
-        (Area::Overrides, &[N, 0, 0, 0]),
+    let cases: [(Area, &[u32]); 16] = [
+        (Area::Types, &[4, 0, N, N]),
+        (Area::Types, &[0, 4, N, N]),
+        (Area::Types, &[0, 0, 0, N]),
+        (Area::Types, &[1, 0, 0, 0]),
+        (Area::Types, &[3, 0, 1, 0]),
+        (Area::Types, &[3, 0, 0, 1]),
+        (Area::Types, &[3, 0, N, N]),
+        (Area::Constants, &[2, 0, 0]),
+        (Area::Overrides, &[N, 0, 0]),
         (Area::Mentions, &[5, 0]),
-        (Area::Expressions, &[34, N, N, N, N, N, N, N, N, N, 0]),
-        (Area::Expressions, &[13, 0, N, N, N, N, N, N, N, N, 0]),
-        (Area::Expressions, &[27, N, N, N, N, N, N, N, N, 0, 0]),
-        (Area::Expressions, &[15, 0, 0, 0, N, N, 2, 0, 0, N, 0]),
-        (Area::Expressions, &[15, 0, 0, 0, N, N, 5, N, N, N, 0]),
-        (Area::Expressions, &[17, 0, 1, 0, N, N, N, N, N, N, 0]),
+        (Area::Expressions, &[34, N, N, N, N, N, N, N, N, N]),
+        (Area::Expressions, &[13, 0, N, N, N, N, N, N, N, N]),
+        (Area::Expressions, &[27, N, N, N, N, N, N, N, N, 0]),
+        (Area::Expressions, &[15, 0, 0, 0, N, N, 2, 0, 0, N]),
+        (Area::Expressions, &[15, 0, 0, 0, N, N, 5, N, N, N]),
+        (Area::Expressions, &[17, 0, 1, 0, N, N, N, N, N, N]),
     ];
-    for (area, words) in cases {
+    // A type that lacks its last word, and the cases with a span and without.
+    let cut = (Area::Types, vec![0, 0, N, N, 412, 9]);
+    let whole = cases.into_iter().flat_map(|(area, words)| {
+        let tails: [&[u32]; 2] = match area {
+            Area::Mentions => [&[], &[]],
+            _ => [&[0, 0, 0], &[412, 9, 0]],
+        };
+        tails.map(|tail| (area, [words, tail].concat()))
+    });
+    for (area, words) in whole.chain([cut]) {
         let mut module = Module::default();
-        module.area_mut(area).extend(words);
+        module.area_mut(area).extend(&words);
         let text = round(&module);
         assert!(
             text.starts_with(&format!("raw {area} ")),
@@ -298,8 +323,7 @@ fn nearly(random: &mut Random, area: Area, ends: &mut [u32; 2]) -> Vec<u32> {
     }
     let slots = kinds::kind_of(area, &words).map_or(0, |kind| kind.slots.len());
     if !random.once_in(8) && area != Area::Mentions {
-        let tag = area.width() - 1;
-        words[area.slots_at() + slots..tag].fill(N);
+        words[area.slots_at() + slots..area.tail_at()].fill(N);
     }
     let run = match (area, kind) {
         (Area::Types, 3) => Some((2, &mut ends[0])),

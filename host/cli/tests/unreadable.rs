@@ -96,6 +96,10 @@ fn keys_that_the_record_does_not_have() {
 fn keys_given_twice() {
     faults(&[
         ("type leaf tag=1 tag=1", "1:17: 'tag' is given twice"),
+        (
+            "type leaf span=0,0 tag=1 span=0,0",
+            "1:26: 'span' is given twice",
+        ),
         ("type leaf leaf", "1:11: 'leaf' is given twice"),
         ("type named base=0 named", "1:19: 'named' is given twice"),
         (
@@ -220,6 +224,40 @@ fn forms_with_other_numbers() {
             "expression ImageQuery query=num_layers:1",
             "1:29: 'num_layers' takes no number",
         ),
+    ]);
+}
+
+#[test]
+fn spans_that_are_none() {
+    let cases = [
+        ("span", "11: 'span' needs a value"),
+        ("span=", "16: a number is missing"),
+        ("span=1", "11: 'span' takes two numbers"),
+        ("span=N", "11: 'span' takes two numbers"),
+        ("span=1,", "18: a number is missing"),
+        ("span=,1", "16: a number is missing"),
+        ("span=1,2,3", "11: 'span' takes two numbers"),
+        ("span=1,2,", "20: a number is missing"),
+        ("span=x,1", "16: 'x' is no number"),
+        ("span=1,-1", "18: '-1' is no number"),
+        ("span=1:2", "16: '1:2' is no number"),
+        (
+            "span=1,4294967296",
+            "18: '4294967296' is too large; the largest number is 4294967295",
+        ),
+    ];
+    for (span, fault) in cases {
+        let text = format!("type leaf {span} tag=1");
+        faults(&[(&text, &format!("1:{fault}"))]);
+    }
+    faults(&[
+        ("type span=1,2", "1:1: a type needs leaf, base= or members="),
+        (
+            "mention type=0 span=1,2",
+            "1:16: a mention has one of type=, constant=, override=, global= or expression=",
+        ),
+        ("mention span=1,2", "1:9: a mention has no 'span'"),
+        ("room types span=1,2", "1:12: 'span=1,2' is no number"),
     ]);
 }
 

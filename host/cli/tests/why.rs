@@ -116,26 +116,30 @@ fn a_chain_through_every_arena() {
     let text = "\
 type leaf
 type base=0 override=0
-type members=0,1
-constant type=0 init=0
+type members=0,1 span=20,3
+constant type=0 init=0 span=1,0
 override type=0 init=2
-global type=2
+global type=2 span=50,N
 expression ZeroValue type=0
 expression Constant constant=0
-expression Compose type=0 components=0,1
+expression Compose type=0 components=0,1 span=60,9
 mention global=0
 ";
     let said = "\
-constant:0 is kept:
+constant:0 (span 1,0) is kept:
   global:0 is a root: mention 0 names it
-  global:0 refers to type:2 by type
-  type:2 refers to type:1 by members[1]
+  global:0 (span 50,N) refers to type:2 by type
+  type:2 (span 20,3) refers to type:1 by members[1]
   type:1 refers to override:0 by override
   override:0 refers to expression:2 by init
-  expression:2 (Compose) refers to expression:1 by components[1]
+  expression:2 (Compose, span 60,9) refers to expression:1 by components[1]
   expression:1 (Constant) refers to constant:0 by constant
 ";
     says(text, "constant:0", said, said);
+    let text = text.replace("mention global=0", "mention type=0");
+    let yes = said.replace("mention 0 names it", "--keep-unused keeps every global");
+    let no = "constant:0 (span 1,0) is dropped: no root leads to it\n";
+    says(&text, "constant:0", no, &yes);
 }
 
 #[test]
@@ -197,7 +201,10 @@ fn is_root(module: &Module, yes: bool, element: Element) -> bool {
     let record = module.record(element.area(), element.index()).unwrap();
     match element {
         Element::Type(_) => yes && record[1] % 2 == 1,
-        Element::Constant(_) => record[0] == 1 && module.types[record[1] as usize * 5 + 1] < 2,
+        Element::Constant(_) => {
+            let ty = module.record(Area::Types, record[1]).unwrap();
+            record[0] == 1 && ty[1] < 2
+        }
         Element::Override(_) => yes && record[0] == 1,
         Element::Global(_) => yes,
         Element::Expression(_) => false,

@@ -1,20 +1,34 @@
 //! Words and modules as document 01 writes them, and what every refusal must leave alone.
 #![allow(dead_code)] // Each test file uses a part.
 
-use cadnohal::{HandleMap, KeepUnused, Maps, Module, Refusal, N};
+use cadnohal::{Area, HandleMap, KeepUnused, Maps, Module, Refusal, Span, N};
 
-/// Words with white space between them; `N` is no handle, `n*w` is w written n times.
+/// Words with white space between them; `N` is no handle, `n*w` is w written n times, `~w` is a tail
+/// with tag w.
 pub fn words(text: &str) -> Vec<u32> {
     let word = |text: &str| match text {
         "N" => N,
         _ => text.parse().expect("a word"),
     };
-    text.split_whitespace()
-        .flat_map(|item| match item.split_once('*') {
-            Some((times, text)) => vec![word(text); times.parse().expect("a number")],
-            None => vec![word(item)],
-        })
-        .collect()
+    let item = |item: &str| match (item.strip_prefix('~'), item.split_once('*')) {
+        (Some(tag), _) => tail(word(tag)).to_vec(),
+        (_, Some((times, text))) => vec![word(text); times.parse().expect("a number")],
+        _ => vec![word(item)],
+    };
+    text.split_whitespace().flat_map(item).collect()
+}
+
+/// The span of a record with this tag: large words and small ones, N and 0 for tag 0.
+pub fn span(tag: u32) -> Span {
+    Span {
+        start: N - tag,
+        length: tag.wrapping_mul(0x9e37_79b9),
+    }
+}
+
+/// The tail of a record with this tag.
+pub fn tail(tag: u32) -> [u32; 3] {
+    [span(tag).start, span(tag).length, tag]
 }
 
 /// The module of eight areas.
@@ -145,13 +159,13 @@ pub fn with_kind(kind: u32) -> Module {
             _ => " 0",
         })
         .collect();
-    let literals = "0 9*N 20  0 9*N 21  0 9*N 22  0 9*N 23";
-    let expressions = format!("{literals}  {kind} {slots} 24  0 9*N 25");
+    let literals = "0 9*N ~20  0 9*N ~21  0 9*N ~22  0 9*N ~23";
+    let expressions = format!("{literals}  {kind} {slots} ~24  0 9*N ~25");
     let components = if kind == 8 { "0 3 0" } else { "" };
     module([
-        "0 0 N N 10",
-        "0 0 0 11",
-        "0 0 N 12",
+        "0 0 N N ~10",
+        "0 0 0 ~11",
+        "0 0 N ~12",
         "",
         &expressions,
         "",
@@ -163,8 +177,14 @@ pub fn with_kind(kind: u32) -> Module {
 /// [`with_kind`] with one slot of the expression under test changed.
 pub fn with_slot(kind: u32, slot: usize, word: u32) -> Module {
     let mut module = with_kind(kind);
-    module.expressions[TESTED as usize * 11 + 1 + slot] = word;
+    tested(&mut module)[1 + slot] = word;
     module
+}
+
+/// The words of the expression under test.
+pub fn tested(module: &mut Module) -> &mut [u32] {
+    let width = Area::Expressions.width();
+    &mut module.expressions[TESTED as usize * width..][..width]
 }
 
 /// Each kind of module scope, each of its slots, and what the slot holds.

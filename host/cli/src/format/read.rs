@@ -172,9 +172,9 @@ fn type_shape(name: Token<'_>, rest: &[Token<'_>]) -> Result<&'static Shape, Com
     if let Some((_, code)) = tells.into_iter().find(|(key, _)| given(key)) {
         return Ok(&SHAPES.types[code]);
     }
-    let stray = rest.iter().map(|token| token.head('=').0);
-    let mut stray = stray.filter(|key| !["named", "abstract", "tag"].contains(&key.text));
-    match stray.next() {
+    let of_all = |key: &str| SHAPES.types.iter().all(|ty| ty.place(key).is_some());
+    let mut keys = rest.iter().map(|token| token.head('=').0);
+    match keys.find(|key| !of_all(key.text)) {
         Some(key) => key.complain(format!("a type has no {}", quoted(key.text))),
         None => name.complain("a type needs leaf, base= or members="),
     }
@@ -200,7 +200,7 @@ fn values<'a>(shape: &Shape, name: Token<'_>, rest: &[Token<'_>]) -> Result<Valu
     let mut values: Values<'a> = vec![None; shape.keys.len()];
     for &token in rest {
         let (key, text) = token.head('=');
-        let Some(place) = shape.keys.iter().position(|known| known.name == key.text) else {
+        let Some(place) = shape.place(key.text) else {
             return key.complain(format!("{} has no {}", shape.title, quoted(key.text)));
         };
         if values[place].is_some() {

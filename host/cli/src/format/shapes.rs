@@ -1,7 +1,7 @@
 //! The readable records: their keys, made from the library's table of kinds.
 
 use cadnohal::{
-    kinds::{self, Holds, Kind, Slot},
+    kinds::{self, Holds, Kind, Slot, TAG},
     Area,
 };
 use std::sync::LazyLock;
@@ -49,6 +49,8 @@ pub enum Held {
     Needed,
     /// A number that is N if left out.
     Optional,
+    /// Two numbers that are 0 if left out; the key's place is that of the record's tail.
+    Span,
     /// A number that is 0 if left out.
     Tag,
     /// A list: start and count of a run of this pool.
@@ -90,6 +92,13 @@ pub struct Shape {
     pub code: u32,
     /// Its keys, in the order in which they are written.
     pub keys: Vec<Key>,
+}
+
+impl Shape {
+    /// The place among its keys of the one with this name.
+    pub fn place(&self, name: &str) -> Option<usize> {
+        self.keys.iter().position(|key| key.name == name)
+    }
 }
 
 /// The shapes of all kinds that the library knows.
@@ -152,7 +161,7 @@ impl Shapes {
     }
 }
 
-/// A shape from its kind: flags and marks first, then the slots, then the tag.
+/// A shape from its kind: flags and marks first, then the slots, then the tail's span and tag.
 fn shape(title: &'static str, head: String, area: Area, code: u32, kind: &Kind) -> Shape {
     let key = |name, at, held| Key { name, at, held };
     let mut keys = match area {
@@ -169,7 +178,11 @@ fn shape(title: &'static str, head: String, area: Area, code: u32, kind: &Kind) 
     }
     let slots = (area.slots_at()..).zip(kind.slots);
     keys.extend(slots.filter_map(|(at, slot)| slot_key(area, at, slot)));
-    keys.push(key("tag", area.width() - 1, Held::Tag));
+    let tail = area.tail_at();
+    keys.extend([
+        key("span", tail, Held::Span),
+        key("tag", tail + TAG, Held::Tag),
+    ]);
     Shape {
         title,
         head,

@@ -5,7 +5,10 @@ use super::{
     token::{Complaint, Token},
 };
 use crate::failure::quoted;
-use cadnohal::{Area, Module, N};
+use cadnohal::{
+    kinds::{LENGTH, START},
+    Area, Module, Span, N,
+};
 use std::borrow::Cow;
 
 /// What a key that was given holds.
@@ -19,6 +22,8 @@ pub enum Value<'a> {
     List(Cow<'a, [u32]>),
     /// A form, its number, and the numbers that were given to it.
     Form(&'static Form, u32, Vec<u32>),
+    /// A span.
+    Span(Span),
 }
 
 /// The values of a shape's keys, in the order of its keys; `None` where a key is left out.
@@ -40,6 +45,10 @@ pub fn from_text<'a>(
         (Held::List(_), Some(text)) if text.text.is_empty() => Ok(Value::List(Cow::default())),
         (Held::List(_), Some(text)) => Ok(Value::List(text.numbers()?.into())),
         (Held::Form(forms), Some(text)) => form_from_text(key.name, forms, text),
+        (Held::Span, Some(text)) => match text.numbers()?[..] {
+            [start, length] => Ok(Value::Span(Span { start, length })),
+            _ => name.complain(format!("{} takes two numbers", quoted(key.name))),
+        },
     }
 }
 
@@ -95,6 +104,7 @@ pub fn to_text(key: &Key, value: &Value<'_>, out: &mut String) {
                 push_numbers(numbers, out);
             }
         }
+        Value::Span(span) => out.push_str(&format!("={span}")),
     }
 }
 
@@ -126,6 +136,11 @@ pub fn from_words<'a>(shape: &Shape, words: &[u32], module: &'a Module) -> Optio
             Held::Needed => Some(Value::Number(word)),
             Held::Optional => (word != N).then_some(Value::Number(word)),
             Held::Tag => (word != 0).then_some(Value::Number(word)),
+            Held::Span => {
+                let (start, length) = (words[key.at + START], words[key.at + LENGTH]);
+                let span = Span { start, length };
+                span.is_given().then_some(Value::Span(span))
+            }
             Held::List(pool) => {
                 let start = word as usize;
                 let end = start.checked_add(words[key.at + 1] as usize)?;
@@ -158,6 +173,10 @@ pub fn to_words(shape: &Shape, values: &Values<'_>, start: u32) -> Vec<u32> {
                 words[key.at] = *code;
                 words[key.at + 1..][..numbers.len()].copy_from_slice(numbers);
             }
+            (Some(Value::Span(span)), _) => {
+                words[key.at + START] = span.start;
+                words[key.at + LENGTH] = span.length;
+            }
             (Some(Value::Set) | None, _) => {}
         }
     }
@@ -171,6 +190,6 @@ fn blank(shape: &Shape) -> Vec<u32> {
     if matches!(shape.area, Area::Types | Area::Expressions) {
         words[0] = shape.code;
     }
-    *words.last_mut().expect("every record has words") = 0;
+    words[shape.area.tail_at()..].fill(0);
     words
 }

@@ -95,6 +95,17 @@ impl Random {
     }
 }
 
+/// The tail of a record with this tag. Of four tags one has no span; else the words are small, large
+/// or N, and no two tags have the same.
+pub fn tail(tag: u32) -> [u32; 3] {
+    match tag % 4 {
+        0 => [0, 0, tag],
+        1 => [tag, N, tag],
+        2 => [N, tag, tag],
+        _ => [N - tag, tag.wrapping_mul(0x9e37_79b9), tag],
+    }
+}
+
 /// A module that the check accepts: every reference is older, and expressions that name types stand
 /// above what sizes them.
 pub struct Good {
@@ -121,6 +132,17 @@ impl Good {
         good.module
     }
 
+    /// Adds a record with the tail of this tag.
+    fn add(&mut self, area: Area, words: &[u32], tag: u32) {
+        let area = self.module.area_mut(area);
+        area.extend(words);
+        area.extend(tail(tag));
+    }
+
+    fn record(&self, area: Area, record: u32) -> &[u32] {
+        self.module.record(area, record).expect("it is there")
+    }
+
     /// Types 0 and 1 are leaves, so that constants and overrides can be of them.
     fn overrides_and_constants(&mut self, constants: u32, overrides: u32, expressions: u32) {
         for tag in 0..constants {
@@ -128,17 +150,16 @@ impl Good {
                 self.random.below(2),
                 self.random.below(2),
                 self.random.below(expressions),
-                tag,
             ];
-            self.module.constants.extend(words);
+            self.add(Area::Constants, &words, tag);
         }
         for tag in 0..overrides {
             let init = match self.random.once_in(3) {
                 true => N,
                 false => self.random.below(expressions),
             };
-            let words = [self.random.below(2), self.random.below(2), init, tag];
-            self.module.overrides.extend(words);
+            let words = [self.random.below(2), self.random.below(2), init];
+            self.add(Area::Overrides, &words, tag);
         }
     }
 
@@ -165,14 +186,14 @@ impl Good {
             }
             _ => [N, N],
         };
-        self.module.types.extend([kind, flags, a, b, handle]);
+        self.add(Area::Types, &[kind, flags, a, b], handle);
     }
 
     /// The largest init among the overrides that size this type or one before it, plus 1, or 0.
     fn above(&self, ty: u32) -> u32 {
-        let types = self.module.types.chunks(5).take(ty as usize + 1);
-        let sizes = types.filter(|ty| ty[0] == 2).map(|ty| ty[3] as usize);
-        let inits = sizes.map(|size| self.module.overrides[size * 4 + 2]);
+        let types = (0..=ty).map(|ty| self.record(Area::Types, ty));
+        let sizes = types.filter(|ty| ty[0] == 2).map(|ty| ty[3]);
+        let inits = sizes.map(|size| self.record(Area::Overrides, size)[2]);
         inits
             .filter(|&init| init != N)
             .map(|init| init + 1)
@@ -205,19 +226,19 @@ impl Good {
             kind => kind,
         };
         let words = self.expression_words(kind, handle);
-        let words = words.unwrap_or([0, N, N, N, N, N, N, N, N, N, handle]);
+        let words = words.unwrap_or([0, N, N, N, N, N, N, N, N, N]);
         if words[0] == 8 {
             for _ in 0..words[3] {
                 let component = self.random.below(handle);
                 self.module.components.push(component);
             }
         }
-        self.module.expressions.extend(words);
+        self.add(Area::Expressions, &words, handle);
     }
 
-    /// The record, unless a slot found nothing good.
-    fn expression_words(&mut self, kind: u32, handle: u32) -> Option<[u32; 11]> {
-        let mut words = [N; 11];
+    /// The words before the tail, unless a slot found nothing good.
+    fn expression_words(&mut self, kind: u32, handle: u32) -> Option<[u32; 10]> {
+        let mut words = [N; 10];
         let mut form = 0;
         for (at, slot) in (1..).zip(kinds::EXPRESSIONS[kind as usize].slots) {
             words[at] = match slot.holds {
@@ -239,7 +260,7 @@ impl Good {
                 Holds::Count(_) => self.random.below(4),
             };
         }
-        (words[0], words[10]) = (kind, handle);
+        words[0] = kind;
         Some(words)
     }
 
@@ -252,7 +273,7 @@ impl Good {
                 false => self.random.below(expressions),
             };
             let ty = self.random.below(types);
-            self.module.globals.extend([ty, init, tag]);
+            self.add(Area::Globals, &[ty, init], tag);
         }
         for _ in 0..mentions {
             let area = self.random.below(5);
