@@ -267,6 +267,33 @@ fn a_second_pass_changes_nothing() {
     }
 }
 
+#[test]
+fn spans_and_tags_move_with_their_records() {
+    let mut after = module([
+        "0 0 N N ~1  0 0 N N ~2",
+        "0 1 1 ~3  0 1 1 ~4",
+        "0 1 N ~5  0 1 N ~6",
+        "1 N ~7  1 N ~8",
+        "0 9*N ~9  0 9*N ~10",
+        "",
+        "",
+        "0 1  1 1  2 1  3 1  4 1",
+    ]);
+    let counts = after.compact(KeepUnused::No).expect("accepted").counts;
+    assert_eq!(counts.to_array(), [1, 1, 1, 1, 1, 0, 0]);
+    let kept = [
+        "0 0 N N ~2  7*N",
+        "0 0 0 ~4  6*N",
+        "0 0 N ~6  6*N",
+        "0 N ~8  5*N",
+        "0 9*N ~10  13*N",
+        "",
+        "",
+        "0 0  1 0  2 0  3 0  4 0",
+    ];
+    assert_eq!(after, module(kept));
+}
+
 /// `module` with this span in each record.
 fn with_spans(mut module: Module, span: Span) -> Module {
     for area in Area::ALL.into_iter().take(5) {
