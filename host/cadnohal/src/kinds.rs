@@ -7,10 +7,10 @@ use std::fmt;
 pub const N: u32 = u32::MAX;
 
 /// The place of the span's first word in a record's tail, which begins at [`Area::tail_at`].
-pub const START: usize = 0;
+pub const SPAN_START: usize = 0;
 
 /// The place of the span's second word in a record's tail.
-pub const LENGTH: usize = 1;
+pub const SPAN_LENGTH: usize = 1;
 
 /// The place of the tag in a record's tail.
 pub const TAG: usize = 2;

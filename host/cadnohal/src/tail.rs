@@ -1,7 +1,7 @@
 //! The words of the host's own that end each record of areas 0 to 4.
 #![forbid(unsafe_code)]
 
-use crate::kinds::{Area, LENGTH, N, START, TAG, TAIL};
+use crate::kinds::{Area, N, SPAN_LENGTH, SPAN_START, TAG, TAIL};
 use std::fmt;
 
 /// Where in the host's own text a record's element stands. Any two words will do: like the tag they
@@ -65,8 +65,8 @@ impl Tail {
 
     pub(crate) fn encode(self) -> [u32; TAIL] {
         let mut words = [0; TAIL];
-        words[START] = self.span.start;
-        words[LENGTH] = self.span.length;
+        words[SPAN_START] = self.span.start;
+        words[SPAN_LENGTH] = self.span.length;
         words[TAG] = self.tag;
         words
     }
@@ -75,8 +75,8 @@ impl Tail {
     pub(crate) fn decode(area: Area, record: &[u32]) -> Option<Self> {
         let words: [u32; TAIL] = record.get(area.tail_at()..)?.try_into().ok()?;
         let span = Span {
-            start: words[START],
-            length: words[LENGTH],
+            start: words[SPAN_START],
+            length: words[SPAN_LENGTH],
         };
         Some(Self::new(span, words[TAG]))
     }

@@ -2,7 +2,7 @@
 
 mod common;
 
-use cadnohal::kinds::{LENGTH, START};
+use cadnohal::kinds::{SPAN_LENGTH, SPAN_START};
 use cadnohal::{Area, Compacted, KeepUnused, Maps, Module, Span, N};
 use common::{long_maps, maps, module, place_with, words};
 
@@ -298,8 +298,8 @@ fn spans_and_tags_move_with_their_records() {
 fn with_spans(mut module: Module, span: Span) -> Module {
     for area in Area::ALL.into_iter().take(5) {
         for record in module.area_mut(area).chunks_exact_mut(area.width()) {
-            record[area.tail_at() + START] = span.start;
-            record[area.tail_at() + LENGTH] = span.length;
+            record[area.tail_at() + SPAN_START] = span.start;
+            record[area.tail_at() + SPAN_LENGTH] = span.length;
         }
     }
     module

@@ -627,10 +627,13 @@ fn the_header_has_the_same_limits_widths_and_places() {
         assert_eq!(defined(header, &format!("{name}_WIDTH")), width);
     }
     // The header counts from a record's end.
-    let before_end = |place| Some(kinds::TAIL - place);
-    assert_eq!(defined(header, "SPAN_START"), before_end(kinds::START));
-    assert_eq!(defined(header, "SPAN_LENGTH"), before_end(kinds::LENGTH));
-    assert_eq!(defined(header, "TAG"), before_end(kinds::TAG));
+    for (name, place) in [
+        ("SPAN_START", kinds::SPAN_START),
+        ("SPAN_LENGTH", kinds::SPAN_LENGTH),
+        ("TAG", kinds::TAG),
+    ] {
+        assert_eq!(defined(header, name), Some(kinds::TAIL - place), "{name}");
+    }
 }
 
 /// The number that the header gives a name.

@@ -147,9 +147,8 @@ fn optional_slots_left_out_are_n() {
     }
 }
 
-#[test]
-fn the_other_records() {
-    let text = "\
+/// Records of every other area, as they are written.
+const OTHERS: &str = "\
 type leaf span=1,2 tag=10
 type named base=0
 type abstract base=0 override=1 tag=N
@@ -167,7 +166,10 @@ mention override=2
 mention global=3
 mention expression=N
 ";
-    let module = words_of(text);
+
+#[test]
+fn the_other_records() {
+    let module = words_of(OTHERS);
     let types = [
         [0, 0, N, N, 1, 2, 10],
         [1, 1, 0, N, 0, 0, 0],
@@ -190,7 +192,7 @@ mention expression=N
         .map(|line| line.split("  #").next().unwrap())
         .filter(|line| !line.is_empty())
         .collect();
-    assert_eq!(bare, text.lines().collect::<Vec<_>>());
+    assert_eq!(bare, OTHERS.lines().collect::<Vec<_>>());
 }
 
 #[test]

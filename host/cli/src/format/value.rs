@@ -6,7 +6,7 @@ use super::{
 };
 use crate::failure::quoted;
 use cadnohal::{
-    kinds::{LENGTH, START},
+    kinds::{SPAN_LENGTH, SPAN_START},
     Area, Module, Span, N,
 };
 use std::borrow::Cow;
@@ -137,7 +137,7 @@ pub fn from_words<'a>(shape: &Shape, words: &[u32], module: &'a Module) -> Optio
             Held::Optional => (word != N).then_some(Value::Number(word)),
             Held::Tag => (word != 0).then_some(Value::Number(word)),
             Held::Span => {
-                let (start, length) = (words[key.at + START], words[key.at + LENGTH]);
+                let (start, length) = (words[key.at + SPAN_START], words[key.at + SPAN_LENGTH]);
                 let span = Span { start, length };
                 span.is_given().then_some(Value::Span(span))
             }
@@ -174,8 +174,8 @@ pub fn to_words(shape: &Shape, values: &Values<'_>, start: u32) -> Vec<u32> {
                 words[key.at + 1..][..numbers.len()].copy_from_slice(numbers);
             }
             (Some(Value::Span(span)), _) => {
-                words[key.at + START] = span.start;
-                words[key.at + LENGTH] = span.length;
+                words[key.at + SPAN_START] = span.start;
+                words[key.at + SPAN_LENGTH] = span.length;
             }
             (Some(Value::Set) | None, _) => {}
         }
