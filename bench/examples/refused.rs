@@ -1,6 +1,6 @@
 //! The check of modules that are refused near their end with 4 to 7: least nanoseconds a record, plain and library.
 
-use bench::flat::{Answer, Module, EXPRESSIONS, N, WIDTHS};
+use bench::flat::{Answer, Module, BODIES, EXPRESSIONS, N, WIDTHS};
 use bench::modules::{measured, Sort};
 use bench::{library, plain};
 use std::hint::black_box;
@@ -19,7 +19,7 @@ fn refused(number: u32, n: usize) -> Module {
         .enumerate()
         .rfind(|(_, record)| record[0] != COMPOSE)
         .expect("some have no run");
-    record[1..10].fill(N);
+    record[1..BODIES[EXPRESSIONS]].fill(N);
     [record[0], record[1]] = match number {
         4 => [34, N],
         5 => [GLOBAL_VARIABLE, 0],

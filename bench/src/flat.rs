@@ -24,8 +24,37 @@ pub const NAMES: [&str; 8] = [
     "mentions",
 ];
 
+/// What ends each arena's record, carried along unread: the span, which is a start and a length, and the host's tag.
+#[derive(Clone, Copy, Debug)]
+pub struct Tail {
+    pub start: u32,
+    pub length: u32,
+    pub tag: u32,
+}
+
+/// Words in a tail.
+pub const TAIL: usize = 3;
+
+impl Tail {
+    pub fn words(self) -> [u32; TAIL] {
+        [self.start, self.length, self.tag]
+    }
+}
+
+/// Words in each arena's record before the tail.
+pub const BODIES: [usize; 5] = [4, 3, 3, 2, 10];
+
 /// Words in a record of each area.
-pub const WIDTHS: [usize; 8] = [5, 4, 4, 3, 11, 1, 1, 2];
+pub const WIDTHS: [usize; 8] = [
+    BODIES[TYPES] + TAIL,
+    BODIES[CONSTANTS] + TAIL,
+    BODIES[OVERRIDES] + TAIL,
+    BODIES[GLOBALS] + TAIL,
+    BODIES[EXPRESSIONS] + TAIL,
+    1,
+    1,
+    2,
+];
 
 /// The most records of each area.
 pub const LIMITS: [usize; 8] = [65536, 65536, 65536, 65536, 65536, 262144, 262144, 65536];
@@ -72,6 +101,13 @@ impl Module {
     /// How many records an area has.
     pub fn records(&self, area: usize) -> usize {
         self.areas[area].len() / WIDTHS[area]
+    }
+
+    /// Appends a record to an arena.
+    pub fn push(&mut self, arena: usize, body: &[u32], tail: Tail) {
+        debug_assert_eq!(body.len(), BODIES[arena]);
+        self.areas[arena].extend_from_slice(body);
+        self.areas[arena].extend(tail.words());
     }
 
     /// Makes each map as long as its arena, with a word of its own in it.

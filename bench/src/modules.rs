@@ -8,7 +8,8 @@
 //! - A live record names live records only; a dead one names any.
 //! - An optional handle is N in half of the cases, a global's in none. Three of four overrides have an init.
 //! - One in four types without handles is abstract. No live constant has an abstract type.
-//! - The pools are cut into runs at random places. Tags are random.
+//! - The pools are cut into runs at random places. Tags are random. The spans follow each other as in a text, each of 1
+//!   to 64, so no two records have the same.
 //!
 //! The kinds, dealt at random but for record 0, which is a type without handles or a `Literal`:
 //!
@@ -95,16 +96,24 @@ pub fn measured(sort: Sort, keep_unused: bool, n: usize) -> Measured {
 pub fn types_alone(n: usize) -> Measured {
     assert!(n > 0);
     let mut module = Module::default();
-    module.areas[TYPES].extend([0, 0, N, N, 0]);
+    let tail = |start: u32| Tail {
+        start,
+        length: 1,
+        tag: start,
+    };
+    module.push(TYPES, &[0, 0, N, N], tail(0));
     for base in 0..n as u32 - 1 {
-        module.areas[TYPES].extend([SIZED, 0, base, 0, base]);
+        module.push(TYPES, &[SIZED, 0, base, 0], tail(1 + base));
     }
-    module.areas[OVERRIDES].extend([0, 0, N, 0]);
+    module.push(OVERRIDES, &[0, 0, N], tail(n as u32));
     module.areas[MENTIONS].extend([TYPES as u32, n as u32 - 1]);
     module.fit_maps();
     let kept = [n as u32, 0, 1, 0, 0, 0, 0];
     Measured { module, kept }
 }
+
+/// An expression without its tail.
+type Body = [u32; BODIES[EXPRESSIONS]];
 
 struct Maker {
     sort: Sort,
@@ -117,6 +126,8 @@ struct Maker {
     sizers: Vec<u32>,
     named: Vec<u32>,
     module: Module,
+    /// Where the next record's span starts.
+    text: u32,
     /// The words of live runs.
     kept_pools: [u32; 2],
 }
@@ -139,20 +150,25 @@ impl Maker {
             sizers: vec![N; n],
             named: vec![N; n],
             module: Module::default(),
+            text: 0,
             kept_pools: [0; 2],
         }
     }
 
-    fn push(&mut self, area: usize, words: &[u32]) {
-        self.module.areas[area].extend_from_slice(words);
+    /// Appends a record with the next span; one random word has the span's length and the tag.
+    fn push(&mut self, arena: usize, body: &[u32]) {
+        let random = self.random.word();
+        let tail = Tail {
+            start: self.text,
+            length: 1 + (random >> 58) as u32,
+            tag: random as u32,
+        };
+        self.text += tail.length;
+        self.module.push(arena, body, tail);
     }
 
     fn lives(&self, area: usize, place: usize) -> bool {
         self.live[area].binary_search(&(place as u32)).is_ok()
-    }
-
-    fn tag(&mut self) -> u32 {
-        self.random.word() as u32
     }
 
     /// A coin for a live record, 0 for a dead one.
@@ -273,8 +289,7 @@ impl Maker {
             };
             let is_abstract = kind == 0 && place != 0 && self.random.one_in(4);
             let flags = self.named_if(live) + 2 * u32::from(is_abstract);
-            let tag = self.tag();
-            self.push(TYPES, &[kind, flags, a, b, tag]);
+            self.push(TYPES, &[kind, flags, a, b]);
         }
     }
 
@@ -295,14 +310,14 @@ impl Maker {
         let start = self.module.areas[pool].len() as u32;
         for _ in 0..count {
             let handle = self.pick(area, place, live);
-            self.push(pool, &[handle]);
+            self.module.areas[pool].push(handle);
         }
         self.kept_pools[kept] += if live { count as u32 } else { 0 };
         [start, count as u32]
     }
 
     fn is_abstract(&self, ty: u32) -> bool {
-        self.module.areas[TYPES][ty as usize * 5 + 1] >= 2
+        self.module.areas[TYPES][ty as usize * WIDTHS[TYPES] + 1] >= 2
     }
 
     fn constants(&mut self) {
@@ -315,8 +330,7 @@ impl Maker {
             let init = self.pick(EXPRESSIONS, place / 2 + 1, live);
             let by_abstract = self.is_abstract(ty) && ty < ABSTRACT_TYPES;
             let named = live || (self.sort == Sort::Half && by_abstract);
-            let tag = self.tag();
-            self.push(CONSTANTS, &[u32::from(named), ty, init, tag]);
+            self.push(CONSTANTS, &[u32::from(named), ty, init]);
         }
     }
 
@@ -332,8 +346,7 @@ impl Maker {
                 (Sort::All, Mix::Even) => 1,
                 _ => self.named_if(live),
             };
-            let tag = self.tag();
-            self.push(OVERRIDES, &[named, ty, init, tag]);
+            self.push(OVERRIDES, &[named, ty, init]);
         }
     }
 
@@ -353,8 +366,7 @@ impl Maker {
                     self.pick(EXPRESSIONS, self.n, true),
                 ],
             };
-            let tag = self.tag();
-            self.push(GLOBALS, &[ty, init, tag]);
+            self.push(GLOBALS, &[ty, init]);
         }
     }
 
@@ -367,32 +379,32 @@ impl Maker {
         let mut runs = self.runs(count).into_iter();
         for (place, kind) in kinds.into_iter().enumerate() {
             let live = self.lives(EXPRESSIONS, place);
-            let mut record = self.slots(kind, place, live);
+            let mut body = self.slots(kind, place, live);
             if kind == COMPOSE {
                 let count = runs.next().expect("a run for each");
-                record[2..4].copy_from_slice(&self.run(EXPRESSIONS, place, count));
+                body[2..4].copy_from_slice(&self.run(EXPRESSIONS, place, count));
             }
-            record[10] = self.tag();
-            self.push(EXPRESSIONS, &record);
+            self.push(EXPRESSIONS, &body);
         }
     }
 
     /// Writes the overrides of kind 2 types once the expressions' kinds are known.
     fn size_types(&mut self, expression_kinds: &[u32]) {
-        let types = self.module.areas[TYPES].chunks(5);
+        let types = self.module.areas[TYPES].chunks(WIDTHS[TYPES]);
         let kinds: Vec<u32> = types.map(|ty| ty[0]).collect();
         self.assign_overrides(&kinds, expression_kinds);
-        for (ty, sizer) in self.module.areas[TYPES].chunks_mut(5).zip(&self.sizers) {
+        let types = self.module.areas[TYPES].chunks_mut(WIDTHS[TYPES]);
+        for (ty, sizer) in types.zip(&self.sizers) {
             if ty[0] == SIZED {
                 ty[3] = *sizer;
             }
         }
     }
 
-    fn slots(&mut self, kind: u32, place: usize, live: bool) -> [u32; 11] {
-        let mut record = [N; 11];
-        record[0] = kind;
-        for (slot, word) in SLOTS[kind as usize].bytes().zip(&mut record[1..]) {
+    fn slots(&mut self, kind: u32, place: usize, live: bool) -> Body {
+        let mut body = [N; BODIES[EXPRESSIONS]];
+        body[0] = kind;
+        for (slot, word) in SLOTS[kind as usize].bytes().zip(&mut body[1..]) {
             *word = match slot {
                 b't' => self.pick(TYPES, place + 1, live),
                 b'c' => self.pick(CONSTANTS, place + 1, live),
@@ -403,29 +415,29 @@ impl Maker {
             };
         }
         match kind {
-            SAMPLE => self.sample(&mut record, place, live),
-            QUERY => self.query(&mut record, place, live),
+            SAMPLE => self.sample(&mut body, place, live),
+            QUERY => self.query(&mut body, place, live),
             _ => {}
         }
-        record
+        body
     }
 
-    fn sample(&mut self, record: &mut [u32; 11], place: usize, live: bool) {
+    fn sample(&mut self, body: &mut Body, place: usize, live: bool) {
         let form = self.random.below(5) as u32;
-        record[6] = form;
+        body[6] = form;
         if form >= 2 {
-            record[7] = self.pick(EXPRESSIONS, place, live);
+            body[7] = self.pick(EXPRESSIONS, place, live);
         }
         if form == 4 {
-            record[8] = self.pick(EXPRESSIONS, place, live);
+            body[8] = self.pick(EXPRESSIONS, place, live);
         }
-        record[9] = self.pick_maybe(place, live);
+        body[9] = self.pick_maybe(place, live);
     }
 
-    fn query(&mut self, record: &mut [u32; 11], place: usize, live: bool) {
-        record[2] = self.random.below(4) as u32;
-        if record[2] == 0 {
-            record[3] = self.pick_maybe(place, live);
+    fn query(&mut self, body: &mut Body, place: usize, live: bool) {
+        body[2] = self.random.below(4) as u32;
+        if body[2] == 0 {
+            body[3] = self.pick_maybe(place, live);
         }
     }
 

@@ -2,12 +2,12 @@
 
 use crate::flat::*;
 
-type Type = [u32; 5];
-type Constant = [u32; 4];
-type Override = [u32; 4];
-type Global = [u32; 3];
-type Expression = [u32; 11];
-type Mention = [u32; 2];
+type Type = [u32; WIDTHS[TYPES]];
+type Constant = [u32; WIDTHS[CONSTANTS]];
+type Override = [u32; WIDTHS[OVERRIDES]];
+type Global = [u32; WIDTHS[GLOBALS]];
+type Expression = [u32; WIDTHS[EXPRESSIONS]];
+type Mention = [u32; WIDTHS[MENTIONS]];
 
 /// Type kinds.
 const BASED: u32 = 1;
@@ -323,7 +323,7 @@ fn check_shapes(module: &Module<'_>) -> Result<(), Fault> {
 }
 
 fn type_shaped(ty: &Type, members: &mut Runs) -> bool {
-    let [kind, flags, a, b, _] = *ty;
+    let [kind, flags, a, b, ..] = *ty;
     let shaped = match kind {
         0 => a == N && b == N,
         BASED => b == N,
@@ -352,7 +352,9 @@ fn expression_shaped(expression: &Expression, components: &mut Runs) -> bool {
         },
         _ => return false,
     };
-    expression[1 + used..10].iter().all(|&word| word == N)
+    expression[1 + used..BODIES[EXPRESSIONS]]
+        .iter()
+        .all(|&word| word == N)
 }
 
 /// An `ImageSample` uses all slots but x and y where its form doesn't name them.
@@ -440,11 +442,11 @@ fn expression_ordered(
         good &= match slot {
             Slot::Type => known(handle),
             Slot::Constant => {
-                let [_, ty, init, _] = module.constants[handle as usize];
+                let [_, ty, init, ..] = module.constants[handle as usize];
                 known(ty) && older(init)
             }
             Slot::Override => {
-                let [_, ty, init, _] = module.overrides[handle as usize];
+                let [_, ty, init, ..] = module.overrides[handle as usize];
                 known(ty) && maybe(init)
             }
             Slot::Expression => older(handle),
@@ -489,21 +491,21 @@ impl Marks {
 
     fn constant(&mut self, module: &Module<'_>, handle: u32) {
         self.constants[handle as usize] = true;
-        let [_, ty, init, _] = module.constants[handle as usize];
+        let [_, ty, init, ..] = module.constants[handle as usize];
         self.ty(ty);
         self.expression(init);
     }
 
     fn pipeline_override(&mut self, module: &Module<'_>, handle: u32) {
         self.overrides[handle as usize] = true;
-        let [_, ty, init, _] = module.overrides[handle as usize];
+        let [_, ty, init, ..] = module.overrides[handle as usize];
         self.ty(ty);
         self.expression(init);
     }
 
     fn global(&mut self, module: &Module<'_>, handle: u32) {
         self.globals[handle as usize] = true;
-        let [ty, init, _] = module.globals[handle as usize];
+        let [ty, init, ..] = module.globals[handle as usize];
         self.ty(ty);
         self.expression(init);
     }
@@ -676,16 +678,16 @@ fn rewrite_types(types: &mut [u32], members: &mut [u32], maps: &Maps<'_>) -> u32
 
 /// Constants or overrides.
 fn rewrite_constants(area: &mut [u32], own: &[u32], maps: &Maps<'_>) {
-    retain(area, own, |[named, ty, init, tag]| {
+    retain(area, own, |[named, ty, init, start, length, tag]| {
         let init = adjusted(maps.expressions, init);
-        [named, maps.types[ty as usize], init, tag]
+        [named, maps.types[ty as usize], init, start, length, tag]
     });
 }
 
 fn rewrite_globals(globals: &mut [u32], maps: &Maps<'_>) {
-    retain(globals, maps.globals, |[ty, init, tag]| {
+    retain(globals, maps.globals, |[ty, init, start, length, tag]| {
         let init = adjusted(maps.expressions, init);
-        [maps.types[ty as usize], init, tag]
+        [maps.types[ty as usize], init, start, length, tag]
     });
 }
 

@@ -1,6 +1,6 @@
 //! The measured modules keep what they say, and the plain version and the library agree on every word of them.
 
-use bench::flat::{Answer, LIMITS, TYPES};
+use bench::flat::{Answer, Module, BODIES, LIMITS, N, TAIL, TYPES, WIDTHS};
 use bench::modules::{measured, types_alone, Measured, Sort};
 use bench::{library, plain};
 
@@ -17,6 +17,42 @@ fn agree(made: &Measured, keep_unused: bool) {
     let n = made.module.records(TYPES);
     assert_eq!(plain.kept, made.kept, "{keep_unused} {n}");
     assert!(by_plain == by_library);
+    for arena in 0..BODIES.len() {
+        let expected = carried(&made.module, &by_library.maps[arena], arena);
+        assert!(tails(&by_library, arena) == expected, "{arena} {n}");
+    }
+}
+
+/// The tails of an arena's records.
+fn tails(module: &Module, arena: usize) -> Vec<[u32; TAIL]> {
+    let records = module.areas[arena].chunks(WIDTHS[arena]);
+    let tail = |record: &[u32]| *record.last_chunk().expect("a record has a tail");
+    records.map(tail).collect()
+}
+
+/// An arena's tails as a pass is to leave them: each kept record's at its new place, N at the others.
+fn carried(before: &Module, map: &[u32], arena: usize) -> Vec<[u32; TAIL]> {
+    let old = tails(before, arena);
+    let mut new = vec![[N; TAIL]; old.len()];
+    for (tail, &place) in old.into_iter().zip(map) {
+        if place != N {
+            new[place as usize] = tail;
+        }
+    }
+    new
+}
+
+/// Were two spans equal, a record could get another's unseen.
+#[test]
+fn no_two_spans_are_equal() {
+    for made in [measured(Sort::Half, false, 512), types_alone(512)] {
+        let tails = (0..BODIES.len()).flat_map(|arena| tails(&made.module, arena));
+        let mut spans: Vec<_> = tails.map(|[start, length, _]| [start, length]).collect();
+        let count = spans.len();
+        spans.sort_unstable();
+        spans.dedup();
+        assert_eq!(spans.len(), count);
+    }
 }
 
 #[test]

@@ -5,6 +5,19 @@ use bench::modules::SLOTS;
 use bench::random::Random;
 use bench::{library, plain};
 
+/// Any words, often N.
+fn any_tail(random: &mut Random) -> Tail {
+    let mut word = || match random.one_in(4) {
+        true => N,
+        false => random.word() as u32,
+    };
+    Tail {
+        start: word(),
+        length: word(),
+        tag: word(),
+    }
+}
+
 /// Grows a module of random sizes whose handles go by place, as the measured ones; each is accepted.
 struct Grower<'a> {
     random: &'a mut Random,
@@ -24,15 +37,10 @@ impl Grower<'_> {
         }
     }
 
-    fn push(&mut self, area: usize, words: &[u32]) {
-        self.module.areas[area].extend_from_slice(words);
-    }
-
-    fn tag(&mut self) -> u32 {
-        match self.random.one_in(4) {
-            true => N,
-            false => self.random.word() as u32,
-        }
+    /// Appends a record with any tail.
+    fn push(&mut self, arena: usize, body: &[u32]) {
+        let tail = any_tail(self.random);
+        self.module.push(arena, body, tail);
     }
 
     fn run(&mut self, area: usize, place: usize) -> [u32; 2] {
@@ -41,7 +49,7 @@ impl Grower<'_> {
         let count = if place == 0 { 0 } else { self.random.below(5) };
         for _ in 0..count {
             let handle = self.below(area, place);
-            self.push(pool, &[handle]);
+            self.module.areas[pool].push(handle);
         }
         [start, count as u32]
     }
@@ -59,8 +67,7 @@ impl Grower<'_> {
                 _ => [0, N, N],
             };
             let flags = self.random.below(4) as u32;
-            let tag = self.tag();
-            self.push(TYPES, &[kind, flags, a, b, tag]);
+            self.push(TYPES, &[kind, flags, a, b]);
         }
     }
 
@@ -73,10 +80,9 @@ impl Grower<'_> {
                     CONSTANTS => self.below(EXPRESSIONS, place / 2 + 1),
                     _ => self.maybe(place / 2 + 1),
                 };
-                let tag = self.tag();
                 match area {
-                    GLOBALS => self.push(area, &[ty, init, tag]),
-                    _ => self.push(area, &[named, ty, init, tag]),
+                    GLOBALS => self.push(area, &[ty, init]),
+                    _ => self.push(area, &[named, ty, init]),
                 }
             }
         }
@@ -101,10 +107,10 @@ impl Grower<'_> {
 
     fn expressions(&mut self) {
         for place in 0..self.counts[EXPRESSIONS] {
-            let mut record = [N; 11];
-            record[0] = self.kind(place);
-            for (k, slot) in SLOTS[record[0] as usize].bytes().enumerate() {
-                record[1 + k] = match slot {
+            let mut body = [N; BODIES[EXPRESSIONS]];
+            body[0] = self.kind(place);
+            for (k, slot) in SLOTS[body[0] as usize].bytes().enumerate() {
+                body[1 + k] = match slot {
                     b't' => self.below(TYPES, place + 1),
                     b'c' => self.below(CONSTANTS, place + 1),
                     b'o' => self.below(OVERRIDES, place + 1),
@@ -112,27 +118,26 @@ impl Grower<'_> {
                     _ => self.maybe(place),
                 };
             }
-            self.forms(place, &mut record);
-            record[10] = self.tag();
-            self.push(EXPRESSIONS, &record);
+            self.forms(place, &mut body);
+            self.push(EXPRESSIONS, &body);
         }
     }
 
-    fn forms(&mut self, place: usize, record: &mut [u32; 11]) {
-        match record[0] {
-            8 => record[2..4].copy_from_slice(&self.run(EXPRESSIONS, place)),
+    fn forms(&mut self, place: usize, body: &mut [u32; BODIES[EXPRESSIONS]]) {
+        match body[0] {
+            8 => body[2..4].copy_from_slice(&self.run(EXPRESSIONS, place)),
             15 => {
                 let form = self.random.below(5);
-                record[6] = form as u32;
-                for slot in &mut record[7..9][..form / 2] {
+                body[6] = form as u32;
+                for slot in &mut body[7..9][..form / 2] {
                     *slot = self.below(EXPRESSIONS, place);
                 }
-                record[9] = self.maybe(place);
+                body[9] = self.maybe(place);
             }
             17 => {
-                record[2] = self.random.below(4) as u32;
-                if record[2] == 0 {
-                    record[3] = self.maybe(place);
+                body[2] = self.random.below(4) as u32;
+                if body[2] == 0 {
+                    body[3] = self.maybe(place);
                 }
             }
             _ => {}
@@ -144,7 +149,7 @@ impl Grower<'_> {
             let area = self.random.below(5);
             if self.counts[area] > 0 {
                 let handle = self.random.below(self.counts[area]) as u32;
-                self.push(MENTIONS, &[area as u32, handle]);
+                self.module.areas[MENTIONS].extend([area as u32, handle]);
             }
         }
     }
@@ -206,7 +211,7 @@ fn damage(random: &mut Random, module: &mut Module) {
         }
         3 if module.records(EXPRESSIONS) > 0 => {
             let record = random.below(module.records(EXPRESSIONS));
-            module.areas[EXPRESSIONS][record * 11] = [13, 27][random.below(2)];
+            module.areas[EXPRESSIONS][record * WIDTHS[EXPRESSIONS]] = [13, 27][random.below(2)];
         }
         _ if module.areas[area].is_empty() => {}
         _ => {
@@ -287,6 +292,44 @@ fn reordered_modules() {
         seen[compare(&module) as usize] += 1;
     }
     assert!(seen[0] > 5000 && seen[7] > 5000, "{seen:?}");
+}
+
+/// Other tails change neither the answer nor the maps nor a word before the tails.
+#[test]
+fn other_tails() {
+    let mut random = Random::new(4);
+    let mut seen = [0; 8];
+    for _ in 0..20_000 {
+        let mut module = good(&mut random);
+        for _ in 0..random.below(2) {
+            damage(&mut random, &mut module);
+        }
+        let mut other = module.clone();
+        each_tail(&mut other, |tail| {
+            *tail = any_tail(&mut random).words();
+        });
+        let keep_unused = random.one_in(2);
+        for pass in [plain::compact, library::compact] {
+            let [one, two] = [&module, &other].map(|module| {
+                let mut after = module.clone();
+                let (areas, maps) = after.lend();
+                let answer = pass(areas, maps, keep_unused);
+                each_tail(&mut after, |tail| tail.fill(0));
+                (answer, after)
+            });
+            assert!(one == two, "{:.4000}", module.to_text());
+            seen[one.0.number as usize] += 1;
+        }
+    }
+    assert!(seen[0] > 5000 && seen[4] > 500 && seen[6] > 500, "{seen:?}");
+}
+
+/// The tail of each whole record of the arenas.
+fn each_tail(module: &mut Module, mut visit: impl FnMut(&mut [u32; TAIL])) {
+    for (words, width) in module.areas.iter_mut().zip(WIDTHS).take(BODIES.len()) {
+        let tails = words.chunks_exact_mut(width);
+        tails.for_each(|record| visit(record.last_chunk_mut().expect("a record has a tail")));
+    }
 }
 
 #[test]
