@@ -15,7 +15,7 @@ pub struct Wanted {
     pub roads: Option<Vec<Road>>,
 }
 
-/// A module while it is made; each record gets the next number as its tag.
+/// A module while it is made; each record gets the next number as its tag, and a span of its own.
 #[derive(Clone, Default)]
 struct Maker {
     flat: Flat,
@@ -23,11 +23,20 @@ struct Maker {
 }
 
 impl Maker {
+    /// The tail of the next record: the span is no other record's, and some have N or 0 in it.
+    fn tail(&self) -> Tail {
+        let tag = self.tag;
+        match tag % 6 {
+            3 => [0, tag, tag],
+            4 => [N, tag, tag],
+            5 => [tag, N, tag],
+            _ => [10 * tag, tag % 4, tag],
+        }
+    }
+
     fn push(&mut self, area: usize, words: &[u32]) -> u32 {
         self.tag += 1;
-        let mut record = words.to_vec();
-        record.push(self.tag);
-        self.flat.push(area, &record);
+        self.flat.push_with(area, words, self.tail());
         self.flat.records(area) as u32 - 1
     }
 
@@ -60,7 +69,7 @@ impl Maker {
     }
 
     fn expression(&mut self, kind: u32, slots: &[u32]) -> u32 {
-        let mut words = [N; 10];
+        let mut words = [N; BODIES[EXPRESSIONS]];
         words[0] = kind;
         words[1..=slots.len()].copy_from_slice(slots);
         self.push(EXPRESSIONS, &words)
@@ -193,7 +202,7 @@ fn one_expression(maker: &mut Maker, kind: u32, form: u32, given: u32) -> u32 {
     maker.leaf(0);
     let ty = maker.leaf(0);
     maker.literal();
-    let mut record = [N; 11];
+    let mut record = [N; BODIES[EXPRESSIONS]];
     record[0] = kind;
     match kind {
         IMAGE_SAMPLE => record[1 + LEVEL_FORM] = form,
@@ -223,7 +232,7 @@ fn one_expression(maker: &mut Maker, kind: u32, form: u32, given: u32) -> u32 {
         maker.compose(ty, &[junk]);
         return maker.compose(ty, &items);
     }
-    maker.expression(kind, &record[1..10])
+    maker.expression(kind, &record[FIRST_SLOT[EXPRESSIONS]..])
 }
 
 /// An element of its own for a slot.

@@ -10,10 +10,10 @@ pub type Marks = [Vec<bool>; 5];
 /// The roots: mentions, and what the flags and the mode make one.
 pub fn roots(flat: &Flat, keep: bool) -> Marks {
     let mut marks: Marks = std::array::from_fn(|area| vec![false; flat.records(area)]);
-    for mention in flat.areas[MENTIONS].chunks(2) {
+    for mention in flat.each(MENTIONS) {
         marks[mention[0] as usize][mention[1] as usize] = true;
     }
-    for (place, constant) in flat.areas[CONSTANTS].chunks(4).enumerate() {
+    for (place, constant) in flat.each(CONSTANTS).enumerate() {
         let ty = flat.record(TYPES, constant[1] as usize);
         if constant[0] == 1 && ty[1] & ABSTRACT == 0 {
             marks[CONSTANTS][place] = true;
@@ -21,10 +21,10 @@ pub fn roots(flat: &Flat, keep: bool) -> Marks {
     }
     if keep {
         marks[GLOBALS].fill(true);
-        for (place, item) in flat.areas[OVERRIDES].chunks(4).enumerate() {
+        for (place, item) in flat.each(OVERRIDES).enumerate() {
             marks[OVERRIDES][place] |= item[0] == 1;
         }
-        for (place, ty) in flat.areas[TYPES].chunks(5).enumerate() {
+        for (place, ty) in flat.each(TYPES).enumerate() {
             marks[TYPES][place] |= ty[1] & NAMED != 0;
         }
     }
@@ -110,7 +110,7 @@ pub fn after(flat: &Flat, marks: &Marks) -> After {
             keep(flat, &mut after, area, place);
         }
     }
-    for mention in flat.areas[MENTIONS].chunks(2) {
+    for mention in flat.each(MENTIONS) {
         let new = after.maps[mention[0] as usize][mention[1] as usize];
         after.areas[MENTIONS].extend([mention[0], new]);
     }

@@ -1,19 +1,20 @@
 //! A flat module as a module of the published compactor, and back.
 //!
-//! Each element carries its old number in its span, and a second time in its name, its mark or its
-//! literal where it has one. So the maps can be read off the module after the pass.
+//! Each element has the span of its record, and carries its old number in its name, its mark, its id, its binding or
+//! its literal where it can. From those and from what names what, the maps are read off the module after the pass.
 
 use crate::flat::*;
-use crate::handles::{ends, global, handle, option, word, HIGHEST};
-use crate::places::{constant_words, expression_words, global_words, override_words, type_words};
+use crate::handles::{global, handle, option, span, word, HIGHEST};
+use crate::places::words;
 use crate::rng::Rng;
 use crate::roads::{self, Laid, Road};
+use crate::survivors::Survivors;
 use crate::types;
 use naga::{
-    Arena, BinaryOperator, Constant, CooperativeData, CooperativeRole, CooperativeSize,
-    DerivativeAxis, DerivativeControl, DocComments, Expression, FastIndexMap, Handle, ImageQuery,
-    Literal, MathFunction, Module, Override, RelationalFunction, SampleLevel, ScalarKind, Span,
-    SwizzleComponent, UnaryOperator, VectorSize,
+    BinaryOperator, Constant, CooperativeData, CooperativeRole, CooperativeSize, DerivativeAxis,
+    DerivativeControl, DocComments, Expression, FastIndexMap, GlobalVariable, Handle, ImageQuery,
+    Literal, MathFunction, Module, Override, RelationalFunction, ResourceBinding, SampleLevel,
+    ScalarKind, SwizzleComponent, Type, UnaryOperator, VectorSize,
 };
 
 /// A module for the published compactor and where its mentions went.
@@ -22,14 +23,19 @@ pub struct Built {
     pub laid: Laid,
     /// The type that is the scalar u32, if any.
     stage_type: Option<usize>,
+    leaves: types::Leaves,
 }
 
 fn name_of(named: bool, old: usize) -> Option<String> {
     named.then(|| old.to_string())
 }
 
-fn span_of(old: usize) -> Span {
-    Span::new(old as u32, N)
+/// A binding that carries an old number.
+fn binding_of(old: u32) -> ResourceBinding {
+    ResourceBinding {
+        group: old,
+        binding: old,
+    }
 }
 
 /// Whether the published types can hold the words: every handle that must be there is there. The areas
@@ -41,14 +47,12 @@ pub fn holdable(flat: &Flat) -> bool {
             handles(flat, area, place, |_, handle| good &= handle < HIGHEST);
         }
     }
-    for expression in flat.areas[EXPRESSIONS].chunks(11) {
+    for expression in flat.each(EXPRESSIONS) {
         if let GLOBAL_VARIABLE | CALL_RESULT = expression[0] {
             good &= expression[1] < HIGHEST;
         }
     }
-    good && flat.areas[MENTIONS]
-        .chunks(2)
-        .all(|mention| mention[1] < HIGHEST)
+    good && flat.each(MENTIONS).all(|mention| mention[1] < HIGHEST)
 }
 
 /// The module with its mentions laid on these roads.
@@ -59,36 +63,44 @@ pub fn build(flat: &Flat, keep: bool, chosen: &[Road], rng: &mut Rng) -> Built {
         types: types::arena(flat, stage_type, rng),
         ..Module::default()
     };
-    for (old, record) in flat.areas[CONSTANTS].chunks(4).enumerate() {
+    let span = |area: usize, place: usize| span(flat.tail(area, place));
+    for (old, record) in flat.each(CONSTANTS).enumerate() {
         let constant = Constant {
             name: name_of(record[0] == 1, old),
             ty: handle(record[1]),
             init: handle(record[2]),
         };
-        module.constants.append(constant, span_of(old));
+        module.constants.append(constant, span(CONSTANTS, old));
     }
-    for (old, record) in flat.areas[OVERRIDES].chunks(4).enumerate() {
+    for (old, record) in flat.each(OVERRIDES).enumerate() {
         let item = Override {
             name: name_of(record[0] == 1, old),
-            id: rng.one_in(2).then_some(old as u16),
+            id: (rng.one_in(2) || record[0] == 0).then_some(old as u16),
             ty: handle(record[1]),
             init: option(record[2]),
         };
-        module.overrides.append(item, span_of(old));
+        module.overrides.append(item, span(OVERRIDES, old));
     }
-    for (old, record) in flat.areas[GLOBALS].chunks(3).enumerate() {
-        let global = global(name_of(rng.one_in(2), old), record[0], option(record[1]));
-        module.global_variables.append(global, span_of(old));
+    for (old, record) in flat.each(GLOBALS).enumerate() {
+        let name = name_of(rng.one_in(2), old);
+        let binding = name.is_none().then_some(binding_of(old as u32));
+        let global = GlobalVariable {
+            binding,
+            ..global(name, record[0], option(record[1]))
+        };
+        module.global_variables.append(global, span(GLOBALS, old));
     }
     for place in 0..flat.records(EXPRESSIONS) {
         let expression = expression_from(flat, place);
-        module.global_expressions.append(expression, span_of(place));
+        let span = span(EXPRESSIONS, place);
+        module.global_expressions.append(expression, span);
     }
     if rng.one_in(4) {
         module.doc_comments = Some(Box::new(comments(flat)));
     }
     let laid = roads::lay(&mut module, flat, keep, chosen, rng);
     Built {
+        leaves: types::leaves(&module.types),
         module,
         laid,
         stage_type,
@@ -121,7 +133,7 @@ fn commented<T>(comments: &FastIndexMap<Handle<T>, Vec<String>>, records: usize)
     map
 }
 
-/// Holds the maps that the comments give against those that the spans give.
+/// Holds the maps that the comments give against those that were read.
 fn read_comments(module: &Module, after: &After) -> Result<(), String> {
     let Some(comments) = &module.doc_comments else {
         return Ok(());
@@ -292,133 +304,92 @@ fn expression_from(flat: &Flat, place: usize) -> Expression {
 
 /// What the module is after the pass, as words; or what about it makes no sense.
 pub fn read(flat: &Flat, built: &Built) -> Result<After, String> {
-    let mut after = After {
-        counts: [0; 7],
-        areas: Default::default(),
-        maps: std::array::from_fn(|area| vec![N; flat.records(area)]),
-    };
-    read_types(flat, built, &mut after)?;
-    read_constants(flat, &built.module, &mut after)?;
-    read_overrides(flat, &built.module, &mut after)?;
-    read_globals(flat, &built.module, &mut after)?;
-    read_expressions(flat, &built.module, &mut after)?;
-    read_comments(&built.module, &after)?;
-    let new_stage = built.stage_type.map(|old| after.maps[TYPES][old]);
-    let handles = roads::read(&built.module, &built.laid, new_stage)?;
-    for (mention, handle) in flat.areas[MENTIONS].chunks(2).zip(handles) {
-        after.areas[MENTIONS].extend([mention[0], handle]);
+    let module = &built.module;
+    let types = old_types(built)?;
+    let mut areas = words(module, |at| {
+        is_abstract(flat, module, at, types[at.index()])
+    });
+    let mut survivors = Survivors::new(flat, &areas);
+    for (new, old) in types.into_iter().enumerate() {
+        survivors.note(TYPES, old, new as u32)?;
     }
+    own_numbers(module, &mut survivors)?;
+    let new_stage = built
+        .stage_type
+        .and_then(|old| survivors.new_number(TYPES, old));
+    let handles = roads::read(module, &built.laid, new_stage)?;
+    for (mention, new) in flat.each(MENTIONS).zip(handles) {
+        survivors.note(mention[0] as usize, mention[1], new)?;
+        areas[MENTIONS].extend([mention[0], new]);
+    }
+    survivors.follow(&areas)?;
+    let mut after = After {
+        counts: std::array::from_fn(|area| (areas[area].len() / WIDTHS[area]) as u32),
+        maps: survivors.tagged(&mut areas)?,
+        areas,
+    };
+    read_comments(module, &after)?;
     for area in 0..7 {
-        after.counts[area] = (after.areas[area].len() / WIDTHS[area]) as u32;
         after.areas[area].resize(flat.areas[area].len(), N);
     }
     Ok(after)
 }
 
-/// Notes in the map that the element with this span now stands at `new`, and gives its old record.
-fn place<'a>(
-    flat: &'a Flat,
-    after: &mut After,
-    area: usize,
-    span: Span,
-    new: usize,
-) -> Result<&'a [u32], String> {
-    let old = ends(span).0 as usize;
-    match after.maps[area].get_mut(old) {
-        Some(word) if *word == N => *word = new as u32,
-        _ => return Err(format!("{} at {new}: old number {old}", AREAS[area])),
-    }
-    Ok(flat.record(area, old))
+/// The old number of each type.
+fn old_types(built: &Built) -> Result<Vec<u32>, String> {
+    let types = built.module.types.iter();
+    types
+        .map(|(at, ty)| {
+            let number = types::number(ty, &built.leaves);
+            number.ok_or_else(|| format!("type at {}: {:?}", at.index(), ty.inner))
+        })
+        .collect()
 }
 
-/// Holds a second mark against the old number.
-fn same(area: usize, old: u32, mark: Option<u32>) -> Result<(), String> {
-    match mark {
-        Some(mark) if mark != old => Err(format!("{} {old}: carries {mark}", AREAS[area])),
-        _ => Ok(()),
+/// Whether a type is abstract. Of an array of itself, which only a refused module has, the crate's `is_abstract` has no
+/// end.
+fn is_abstract(flat: &Flat, module: &Module, at: Handle<Type>, old: u32) -> bool {
+    match types::has_an_end(flat, old as usize) {
+        true => module.types[at].inner.is_abstract(&module.types),
+        false => flat.record(TYPES, old as usize)[1] & ABSTRACT != 0,
     }
+}
+
+/// Notes the old numbers that elements carry, types aside.
+fn own_numbers(module: &Module, survivors: &mut Survivors) -> Result<(), String> {
+    let mut note = |area: usize, new: usize, own: Option<u32>| match own {
+        Some(old) => survivors.note(area, old, new as u32),
+        None => Ok(()),
+    };
+    for (at, item) in module.constants.iter() {
+        note(CONSTANTS, at.index(), named_number(&item.name))?;
+    }
+    for (at, item) in module.overrides.iter() {
+        note(OVERRIDES, at.index(), named_number(&item.name))?;
+        note(OVERRIDES, at.index(), item.id.map(u32::from))?;
+    }
+    for (at, item) in module.global_variables.iter() {
+        note(GLOBALS, at.index(), named_number(&item.name))?;
+        note(
+            GLOBALS,
+            at.index(),
+            item.binding.map(|binding| binding.group),
+        )?;
+    }
+    for (at, item) in module.global_expressions.iter() {
+        note(EXPRESSIONS, at.index(), expression_number(item))?;
+    }
+    Ok(())
 }
 
 /// The number that a name stands for.
-fn named_mark(name: &Option<String>) -> Option<u32> {
+fn named_number(name: &Option<String>) -> Option<u32> {
     name.as_ref()
         .map(|name| name.parse().expect("a name is a number"))
 }
 
-fn read_types(flat: &Flat, built: &Built, after: &mut After) -> Result<(), String> {
-    let types = &built.module.types;
-    for (at, ty) in types.iter() {
-        let span = types.get_span(at);
-        let (tag, old) = (
-            place(flat, after, TYPES, span, at.index())?[4],
-            ends(span).0,
-        );
-        same(TYPES, old, named_mark(&ty.name))?;
-        if !types::carries(&ty.inner, old) {
-            return Err(format!("type {old} is {:?}", ty.inner));
-        }
-        // Of an array of itself, which only a refused module has, the crate's `is_abstract` has no end.
-        let is_abstract = if types::has_an_end(flat, old as usize) {
-            ty.inner.is_abstract(types)
-        } else {
-            flat.record(TYPES, old as usize)[1] & ABSTRACT != 0
-        };
-        let words = type_words(ty, is_abstract, &mut after.areas[MEMBERS]);
-        after.areas[TYPES].extend(words);
-        after.areas[TYPES].push(tag);
-    }
-    Ok(())
-}
-
-fn read_constants(flat: &Flat, module: &Module, after: &mut After) -> Result<(), String> {
-    for (at, item) in module.constants.iter() {
-        let span = module.constants.get_span(at);
-        let tag = place(flat, after, CONSTANTS, span, at.index())?[3];
-        same(CONSTANTS, ends(span).0, named_mark(&item.name))?;
-        after.areas[CONSTANTS].extend(constant_words(item));
-        after.areas[CONSTANTS].push(tag);
-    }
-    Ok(())
-}
-
-fn read_overrides(flat: &Flat, module: &Module, after: &mut After) -> Result<(), String> {
-    for (at, item) in module.overrides.iter() {
-        let span = module.overrides.get_span(at);
-        let tag = place(flat, after, OVERRIDES, span, at.index())?[3];
-        same(OVERRIDES, ends(span).0, named_mark(&item.name))?;
-        same(OVERRIDES, ends(span).0, item.id.map(u32::from))?;
-        after.areas[OVERRIDES].extend(override_words(item));
-        after.areas[OVERRIDES].push(tag);
-    }
-    Ok(())
-}
-
-fn read_globals(flat: &Flat, module: &Module, after: &mut After) -> Result<(), String> {
-    for (at, item) in module.global_variables.iter() {
-        let span = module.global_variables.get_span(at);
-        let tag = place(flat, after, GLOBALS, span, at.index())?[2];
-        same(GLOBALS, ends(span).0, named_mark(&item.name))?;
-        after.areas[GLOBALS].extend(global_words(item));
-        after.areas[GLOBALS].push(tag);
-    }
-    Ok(())
-}
-
-fn read_expressions(flat: &Flat, module: &Module, after: &mut After) -> Result<(), String> {
-    let arena: &Arena<Expression> = &module.global_expressions;
-    for (at, expression) in arena.iter() {
-        let span = arena.get_span(at);
-        let tag = place(flat, after, EXPRESSIONS, span, at.index())?[10];
-        same(EXPRESSIONS, ends(span).0, expression_mark(expression))?;
-        let words = expression_words(expression, &mut after.areas[COMPONENTS]);
-        after.areas[EXPRESSIONS].extend(words);
-        after.areas[EXPRESSIONS].push(tag);
-    }
-    Ok(())
-}
-
 /// The old number that some kinds carry themselves.
-fn expression_mark(expression: &Expression) -> Option<u32> {
+fn expression_number(expression: &Expression) -> Option<u32> {
     match *expression {
         Expression::Literal(Literal::U32(old)) | Expression::FunctionArgument(old) => Some(old),
         Expression::LocalVariable(handle) => Some(word(handle)),

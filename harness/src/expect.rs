@@ -74,7 +74,8 @@ fn longer_than_runs(flat: &Flat, pool: usize, sum: u64) -> Found {
 fn misshapen_type(flat: &Flat, place: usize, sum: &mut u64) -> bool {
     let record = flat.record(TYPES, place);
     let (kind, flags) = (record[0], record[1]);
-    kind > 3 || flags > 3 || misshapen_slots(flat, MEMBERS, &type_slots(kind), &record[2..4], sum)
+    let words = &record[FIRST_SLOT[TYPES]..];
+    kind > 3 || flags > 3 || misshapen_slots(flat, MEMBERS, &type_slots(kind), words, sum)
 }
 
 fn misshapen_expression(flat: &Flat, place: usize, sum: &mut u64) -> bool {
@@ -84,7 +85,8 @@ fn misshapen_expression(flat: &Flat, place: usize, sum: &mut u64) -> bool {
         return false;
     }
     let slots = expression_slots(record);
-    kind > 33 || misshapen_slots(flat, COMPONENTS, &slots, &record[1..10], sum)
+    let words = &record[FIRST_SLOT[EXPRESSIONS]..];
+    kind > 33 || misshapen_slots(flat, COMPONENTS, &slots, words, sum)
 }
 
 /// An unused slot that isn't N, a form that isn't one, or a run that isn't packed. `sum` is what the runs

@@ -53,7 +53,7 @@ unsafe extern "C" {
 pub struct Linked;
 
 /// The form of the boundary that is declared here.
-const ABI: u32 = 1;
+const ABI: u32 = 2;
 
 /// The linked library, if its functions have the form that is declared here.
 pub fn linked() -> Result<&'static Linked, String> {

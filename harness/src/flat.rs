@@ -1,5 +1,7 @@
 //! The flat module of document 01: eight areas of words, and what each word of a record is.
 
+use std::slice::{ChunksExact, ChunksExactMut};
+
 /// "No handle".
 pub const N: u32 = u32::MAX;
 
@@ -30,8 +32,33 @@ pub const MAPS: [&str; 5] = [
     "expression_map",
 ];
 
+/// Words of a record before its tail, for each arena.
+pub const BODIES: [usize; 5] = [4, 3, 3, 2, 10];
+
+/// The words that end a record of an arena: start and length of its span, and its tag.
+pub type Tail = [u32; 3];
+
+/// Where these stand in a tail.
+pub const START: usize = 0;
+pub const LENGTH: usize = 1;
+pub const TAG: usize = 2;
+
+/// Words of a record of an arena.
+const fn width(arena: usize) -> usize {
+    BODIES[arena] + size_of::<Tail>() / size_of::<u32>()
+}
+
 /// Words of a record, for each area.
-pub const WIDTHS: [usize; 8] = [5, 4, 4, 3, 11, 1, 1, 2];
+pub const WIDTHS: [usize; 8] = [
+    width(TYPES),
+    width(CONSTANTS),
+    width(OVERRIDES),
+    width(GLOBALS),
+    width(EXPRESSIONS),
+    1,
+    1,
+    2,
+];
 
 /// Most records, for each area.
 pub const LIMITS: [usize; 8] = [65536, 65536, 65536, 65536, 65536, 262144, 262144, 65536];
@@ -78,9 +105,30 @@ impl Flat {
         &mut self.areas[area][place * width..(place + 1) * width]
     }
 
+    /// The records of an area, in order.
+    pub fn each(&self, area: usize) -> ChunksExact<'_, u32> {
+        self.areas[area].chunks_exact(WIDTHS[area])
+    }
+
+    pub fn each_mut(&mut self, area: usize) -> ChunksExactMut<'_, u32> {
+        self.areas[area].chunks_exact_mut(WIDTHS[area])
+    }
+
+    /// The tail of a record of an arena.
+    pub fn tail(&self, area: usize, place: usize) -> Tail {
+        tail(area, self.record(area, place))
+    }
+
     pub fn push(&mut self, area: usize, record: &[u32]) {
         assert_eq!(record.len(), WIDTHS[area]);
         self.areas[area].extend_from_slice(record);
+    }
+
+    /// Appends a record of an arena: the words before its tail, and its tail.
+    pub fn push_with(&mut self, area: usize, body: &[u32], tail: Tail) {
+        assert_eq!(body.len(), BODIES[area]);
+        self.areas[area].extend_from_slice(body);
+        self.areas[area].extend(tail);
     }
 
     /// Gives each map as many words as its arena has records.
@@ -94,6 +142,12 @@ impl Flat {
     pub fn words(&self) -> usize {
         self.areas.iter().map(Vec::len).sum()
     }
+}
+
+/// The tail of a record of an arena.
+pub fn tail(area: usize, record: &[u32]) -> Tail {
+    let from = BODIES[area];
+    [START, LENGTH, TAG].map(|word| record[from + word])
 }
 
 /// What a word of a record is.
@@ -125,7 +179,7 @@ pub fn type_slots(kind: u32) -> [Slot; 2] {
     }
 }
 
-/// The nine slots of an expression with these words (kind, slots, tag).
+/// The nine slots of an expression with these words (kind, slots, tail).
 pub fn expression_slots(record: &[u32]) -> [Slot; 9] {
     const E: Slot = Need(EXPRESSIONS);
     const O: Slot = May(EXPRESSIONS);
@@ -162,7 +216,7 @@ pub fn expression_slots(record: &[u32]) -> [Slot; 9] {
     slots
 }
 
-/// The words of a constant, override or global after its `named`, if it has one, and before its tag.
+/// The words of a constant, override or global after its `named`, if it has one, and before its tail.
 pub fn plain_slots(area: usize) -> [Slot; 2] {
     match area {
         CONSTANTS => [Need(TYPES), Need(EXPRESSIONS)],

@@ -1,6 +1,6 @@
 //! Handles by number. Only an arena hands them out, one for each element that it is given.
 
-use crate::flat::{LIMITS, N, TYPES};
+use crate::flat::{Tail, LIMITS, N, TYPES};
 use naga::{
     AddressSpace, Arena, Constant, Expression, Function, GlobalVariable, Handle, LocalVariable,
     MemoryDecorations, Override, Scalar, Span, Type, TypeInner,
@@ -73,7 +73,18 @@ pub fn option_word<T>(given: Option<Handle<T>>) -> u32 {
     given.map_or(N, word)
 }
 
-/// The two numbers that an element carries in its span.
+/// The span of a record with this tail. Any two words are one: where the end would be too far it begins again at 0.
+pub fn span([start, length, _]: Tail) -> Span {
+    Span::new(start, start.wrapping_add(length))
+}
+
+/// Start and length of a span, with a tag.
+pub fn tail(span: Span, tag: u32) -> Tail {
+    let (start, end) = ends(span);
+    [start, end.wrapping_sub(start), tag]
+}
+
+/// The two numbers of a span.
 pub fn ends(span: Span) -> (u32, u32) {
     span.to_range()
         .map_or((0, 0), |ends| (ends.start as u32, ends.end as u32))

@@ -3,8 +3,8 @@
 
 use crate::closure;
 use crate::flat::*;
-use crate::handles::{ends, handle, word, Numbered};
-use crate::library::Library;
+use crate::handles::{ends, handle, span, word, Numbered};
+use crate::library::{Lent, Library};
 use crate::places::*;
 use crate::roads::{argument, bare_entry};
 use naga::compact::{compact, KeepUnused};
@@ -15,8 +15,9 @@ use naga::{
 use std::cell::Cell;
 use std::collections::HashSet;
 
-/// Gives each element its own number as its span.
-pub fn number(module: &mut Module) {
+/// The module with each element's own number as its span.
+pub fn numbered(module: &Module) -> Module {
+    let mut module = module.clone();
     let mut types = UniqueArena::new();
     for (handle, ty) in module.types.iter() {
         types.insert(ty.clone(), span_of(handle));
@@ -26,6 +27,7 @@ pub fn number(module: &mut Module) {
     number_arena(&mut module.overrides);
     number_arena(&mut module.global_variables);
     number_arena(&mut module.global_expressions);
+    module
 }
 
 fn number_arena<T>(arena: &mut Arena<T>) {
@@ -40,31 +42,46 @@ fn span_of<T>(handle: Handle<T>) -> Span {
     Span::new(word(handle), N)
 }
 
-/// The words of areas 0 to 6; tags are the numbers in the spans.
-pub fn words(module: &Module) -> [Vec<u32>; 8] {
-    let mut areas: [Vec<u32>; 8] = Default::default();
-    for (at, ty) in module.types.iter() {
-        let is_abstract = ty.inner.is_abstract(&module.types);
-        let words = type_words(ty, is_abstract, &mut areas[MEMBERS]);
-        areas[TYPES].extend(words);
-        areas[TYPES].push(ends(module.types.get_span(at)).0);
-    }
-    for (at, item) in module.constants.iter() {
-        areas[CONSTANTS].extend(constant_words(item));
-        areas[CONSTANTS].push(ends(module.constants.get_span(at)).0);
-    }
-    for (at, item) in module.overrides.iter() {
-        areas[OVERRIDES].extend(override_words(item));
-        areas[OVERRIDES].push(ends(module.overrides.get_span(at)).0);
-    }
-    for (at, item) in module.global_variables.iter() {
-        areas[GLOBALS].extend(global_words(item));
-        areas[GLOBALS].push(ends(module.global_variables.get_span(at)).0);
-    }
-    for (at, item) in module.global_expressions.iter() {
-        let words = expression_words(item, &mut areas[COMPONENTS]);
-        areas[EXPRESSIONS].extend(words);
-        areas[EXPRESSIONS].push(ends(module.global_expressions.get_span(at)).0);
+/// The numbers that the elements of a numbered module carry, for each arena.
+pub type Numbers = [Vec<u32>; 5];
+
+pub fn numbers(module: &Module) -> Numbers {
+    [
+        starts(
+            module
+                .types
+                .iter()
+                .map(|pair| module.types.get_span(pair.0)),
+        ),
+        arena_numbers(&module.constants),
+        arena_numbers(&module.overrides),
+        arena_numbers(&module.global_variables),
+        arena_numbers(&module.global_expressions),
+    ]
+}
+
+fn arena_numbers<T>(arena: &Arena<T>) -> Vec<u32> {
+    starts(arena.iter().map(|pair| arena.get_span(pair.0)))
+}
+
+fn starts(spans: impl Iterator<Item = Span>) -> Vec<u32> {
+    spans.map(|span| ends(span).0).collect()
+}
+
+/// The words of areas 0 to 6 without tags.
+pub fn untagged(module: &Module) -> [Vec<u32>; 8] {
+    let types = &module.types;
+    words(module, |at| types[at].inner.is_abstract(types))
+}
+
+/// The words of areas 0 to 6 with these numbers as tags.
+pub fn tagged(module: &Module, numbers: &Numbers) -> [Vec<u32>; 8] {
+    let mut areas = untagged(module);
+    for (area, numbers) in numbers.iter().enumerate() {
+        let records = areas[area].chunks_exact_mut(WIDTHS[area]);
+        for (record, number) in records.zip(numbers) {
+            record[BODIES[area] + TAG] = *number;
+        }
     }
     areas
 }
@@ -89,7 +106,7 @@ pub fn settle(module: &Module) -> Result<Module, String> {
     settled.entry_points.push(entry);
     compact(&mut settled, KeepUnused::Yes);
     settled.entry_points.truncate(module.entry_points.len());
-    if words(&settled) != words(module) || settled.functions.len() != module.functions.len() {
+    if untagged(&settled) != untagged(module) || settled.functions.len() != module.functions.len() {
         return Err(String::from(
             "an area changed though every element was named",
         ));
@@ -257,6 +274,8 @@ pub fn mentions(module: &mut Module, reached: &[bool]) -> Vec<u32> {
 struct Mover<'a> {
     library: &'a dyn Library,
     maps: &'a [Vec<u32>; 5],
+    /// What the pass left, for the spans.
+    areas: &'a [Vec<u32>; 8],
     functions: Vec<u32>,
     /// How many handles have no new one.
     lost: Cell<usize>,
@@ -292,13 +311,20 @@ impl Mover<'_> {
         }
     }
 
+    /// The span that the pass left in the new record of an element, if there is such a record.
+    fn span(&self, area: usize, old: usize) -> Span {
+        let new = self.maps[area][old] as usize;
+        let record = self.areas[area].chunks_exact(WIDTHS[area]).nth(new);
+        record.map_or(Span::UNDEFINED, |record| span(tail(area, record)))
+    }
+
     /// Keeps what the map keeps, changed.
-    fn retain<T>(&self, map: &[u32], arena: &mut Arena<T>, mut change: impl FnMut(&mut T)) {
+    fn retain<T>(&self, area: usize, arena: &mut Arena<T>, mut change: impl FnMut(&mut T)) {
         let mut kept = Arena::new();
-        for (handle, mut item, span) in arena.drain() {
-            if map[handle.index()] != N {
+        for (handle, mut item, _) in arena.drain() {
+            if self.maps[area][handle.index()] != N {
                 change(&mut item);
-                kept.append(item, span);
+                kept.append(item, self.span(area, handle.index()));
             }
         }
         *arena = kept;
@@ -312,7 +338,7 @@ impl Mover<'_> {
                 for place in type_places(&mut ty.inner).1 {
                     self.place(place);
                 }
-                kept.insert(ty, module.types.get_span(handle));
+                kept.insert(ty, self.span(TYPES, handle.index()));
             }
         }
         module.types = kept;
@@ -320,27 +346,23 @@ impl Mover<'_> {
 
     fn areas(&self, module: &mut Module) {
         self.types(module);
-        self.retain(&self.maps[CONSTANTS], &mut module.constants, |item| {
+        self.retain(CONSTANTS, &mut module.constants, |item| {
             self.place(Place::Type(&mut item.ty));
             self.place(Place::Expression(&mut item.init));
         });
-        self.retain(&self.maps[OVERRIDES], &mut module.overrides, |item| {
+        self.retain(OVERRIDES, &mut module.overrides, |item| {
             self.place(Place::Type(&mut item.ty));
             self.place(Place::Maybe(&mut item.init));
         });
-        self.retain(&self.maps[GLOBALS], &mut module.global_variables, |item| {
+        self.retain(GLOBALS, &mut module.global_variables, |item| {
             self.place(Place::Type(&mut item.ty));
             self.place(Place::Maybe(&mut item.init));
         });
-        self.retain(
-            &self.maps[EXPRESSIONS],
-            &mut module.global_expressions,
-            |item| {
-                for place in expression_places(item).1 {
-                    self.place(place);
-                }
-            },
-        );
+        self.retain(EXPRESSIONS, &mut module.global_expressions, |item| {
+            for place in expression_places(item).1 {
+                self.place(place);
+            }
+        });
     }
 
     /// Drops the functions that were not reached and moves the calls of the others.
@@ -349,23 +371,30 @@ impl Mover<'_> {
         for entry in &mut module.entry_points {
             calls(&mut entry.function.body, &mut call);
         }
-        self.retain(&self.functions, &mut module.functions, |function| {
-            calls(&mut function.body, &mut call);
-        });
+        let mut kept = Arena::new();
+        for (handle, mut function, span) in module.functions.drain() {
+            if self.functions[handle.index()] != N {
+                calls(&mut function.body, &mut call);
+                kept.append(function, span);
+            }
+        }
+        module.functions = kept;
     }
 }
 
-/// A settled module after a pass: its arenas by the maps, its mentions adjusted, unreached functions gone.
+/// A settled module after a pass: its arenas by the maps and with the spans that were left, its mentions adjusted,
+/// unreached functions gone.
 pub fn rebuild(
     library: &dyn Library,
     settled: &Module,
     reached: &[bool],
-    maps: &[Vec<u32>; 5],
+    lent: &Lent,
 ) -> Result<Module, String> {
     let mut module = settled.clone();
     let mover = Mover {
         library,
-        maps,
+        maps: &lent.maps.each_ref().map(|map| map.get().to_vec()),
+        areas: &lent.areas.each_ref().map(|area| area.get().to_vec()),
         functions: closure::number(reached),
         lost: Cell::new(0),
     };

@@ -36,6 +36,8 @@ mod rust;
 #[cfg(feature = "crate")]
 mod shaders;
 mod shrink;
+#[cfg(published)]
+mod survivors;
 #[cfg(test)]
 mod tests;
 mod text;

@@ -81,6 +81,47 @@ impl Pass<'_> {
         }
     }
 
+    /// The tail of each kept record as it was and as it is.
+    fn tails(&mut self, area: usize, mut spoil: impl FnMut(Tail, &mut [u32])) {
+        self.each(area, |old, new| {
+            spoil(tail(area, old), &mut new[BODIES[area]..])
+        });
+    }
+
+    /// Each kept record has the span of the record at another place of the module, if there is one.
+    fn spans_from(&mut self, area: usize, other: impl Fn(usize, usize) -> usize) {
+        for place in 0..self.flat.records(area) {
+            let new = self.lent.maps[area].get()[place];
+            let from = other(place, new as usize);
+            if new != N && from < self.flat.records(area) {
+                let [start, length, _] = self.flat.tail(area, from);
+                self.put_span(area, new as usize, [start, length]);
+            }
+        }
+    }
+
+    fn put_span(&mut self, area: usize, place: usize, [start, length]: [u32; 2]) {
+        let at = place * WIDTHS[area] + BODIES[area];
+        let words = self.area(area);
+        words[at + START] = start;
+        words[at + LENGTH] = length;
+    }
+
+    /// The spans past the kept records are left as they were.
+    fn freed_spans_stay(&mut self, area: usize) {
+        for place in self.answer.counts[area] as usize..self.flat.records(area) {
+            let [start, length, _] = self.flat.tail(area, place);
+            self.put_span(area, place, [start, length]);
+        }
+    }
+
+    /// Refuses the first record with such a span.
+    fn refuse_span(&mut self, number: u32, fits: impl Fn(u32, u32) -> bool) {
+        if let Some((area, place)) = odd_span(self.flat, fits) {
+            self.refuse(number, area, place);
+        }
+    }
+
     /// This word of each kept record of a kind is left as it was.
     fn stays(&mut self, area: usize, kind: u32, word: usize) {
         self.each(area, |old, new| {
@@ -116,7 +157,7 @@ impl Pass<'_> {
 
     /// Mentions of an area are left as they were.
     fn mentions_stay(&mut self, area: usize) {
-        let old = self.flat.areas[MENTIONS].chunks(2);
+        let old = self.flat.each(MENTIONS);
         for (new, old) in self.lent.areas[MENTIONS].get_mut().chunks_mut(2).zip(old) {
             if old[0] as usize == area {
                 new[1] = old[1];
@@ -126,7 +167,7 @@ impl Pass<'_> {
 
     /// Refuses the first type that fits, with 4.
     fn refuse_type(&mut self, fits: impl Fn(&[u32]) -> bool) {
-        if let Some(place) = self.flat.areas[TYPES].chunks(5).position(fits) {
+        if let Some(place) = self.flat.each(TYPES).position(fits) {
             self.refuse(4, TYPES, place);
         }
     }
@@ -180,7 +221,7 @@ impl Pass<'_> {
     /// Whether a refusal tells a record with a run whose end passes 32 bits.
     fn told_run_wraps(&self) -> bool {
         match (self.told_area(), self.told()) {
-            (TYPES, [3, _, start, count, _]) | (EXPRESSIONS, [COMPOSE, _, start, count, ..]) => {
+            (TYPES, [3, _, start, count, ..]) | (EXPRESSIONS, [COMPOSE, _, start, count, ..]) => {
                 start.checked_add(*count).is_none()
             }
             _ => false,
@@ -195,6 +236,17 @@ fn told<'a>(flat: &'a Flat, answer: &Answer) -> &'a [u32] {
         4.. if record < flat.records(area) => flat.record(area, record),
         _ => &[],
     }
+}
+
+/// The first record of the arenas with such a span.
+fn odd_span(flat: &Flat, fits: impl Fn(u32, u32) -> bool) -> Option<(usize, usize)> {
+    (0..5).find_map(|area| {
+        let odd = |record: &[u32]| {
+            let [start, length, _] = tail(area, record);
+            fits(start, length)
+        };
+        flat.each(area).position(odd).map(|place| (area, place))
+    })
 }
 
 /// Adds one to a word, if it is there.
@@ -243,7 +295,7 @@ fn fold(marks: &[bool], by: usize) -> Vec<bool> {
 /// The first `ZeroValue` of a type from `first` on that the next type's dep would make ill ordered.
 fn late_by_one(flat: &Flat, first: usize) -> Option<usize> {
     let deps = deps(flat);
-    let mut records = flat.areas[EXPRESSIONS].chunks(11).enumerate();
+    let mut records = flat.each(EXPRESSIONS).enumerate();
     let late = records.find(|(place, record)| {
         let ty = record[1] as usize;
         record[0] == 7
@@ -262,7 +314,7 @@ fn short_map(flat: &Flat) -> Option<usize> {
 
 /// The last expression of kind 13 or 27.
 fn last_misplaced(flat: &Flat) -> u32 {
-    let mut records = flat.areas[EXPRESSIONS].chunks(11);
+    let mut records = flat.each(EXPRESSIONS);
     let found = records.rposition(|record| matches!(record[0], GLOBAL_VARIABLE | CALL_RESULT));
     found.map_or(N, |place| place as u32)
 }
@@ -348,10 +400,10 @@ pub static MUTANTS: &[Mutant] = &[
     large(Edge(TYPES), "counts in sixteen bits", Accepted(|p| for count in &mut p.answer.counts[..5] { *count &= 0xffff })),
     wrong("names a record though it accepts", Accepted(|p| p.answer.record = 1)),
     // The words of records.
-    wrong("tag of a type whose handles change", Accepted(|p| p.each(TYPES, |old, new| if old[2..4] != new[2..4] { new[4] ^= 1 }))),
-    wrong("tag of the last expression", Accepted(|p| if let last @ 1.. = p.answer.counts[4] as usize { p.area(EXPRESSIONS)[11 * last - 1] ^= 1 })),
-    wrong("tag of a global that is N becomes 0", Accepted(|p| p.each(GLOBALS, |old, new| if old[2] == N { new[2] = 0 }))),
-    wrong("tag of an override loses its highest bit", Accepted(|p| p.each(OVERRIDES, |_, new| new[3] &= N >> 1))),
+    wrong("tag of a type whose handles change", Accepted(|p| p.each(TYPES, |old, new| if old[..BODIES[TYPES]] != new[..BODIES[TYPES]] { new[BODIES[TYPES] + TAG] ^= 1 }))),
+    wrong("tag of the last expression", Accepted(|p| if let last @ 1.. = p.answer.counts[4] as usize { p.area(EXPRESSIONS)[WIDTHS[EXPRESSIONS] * last - 1] ^= 1 })),
+    wrong("tag of a global that is N becomes 0", Accepted(|p| p.tails(GLOBALS, |old, new| if old[TAG] == N { new[TAG] = 0 }))),
+    wrong("tag of an override loses its highest bit", Accepted(|p| p.tails(OVERRIDES, |_, new| new[TAG] &= N >> 1))),
     wrong("forgets that a type is abstract", Accepted(|p| p.each(TYPES, |_, new| new[1] &= !ABSTRACT))),
     wrong("forgets the name of a constant", Accepted(|p| p.each(CONSTANTS, |_, new| new[0] = 0))),
     wrong("forgets the name of an override with Yes", Accepted(|p| if p.keep { p.each(OVERRIDES, |_, new| new[0] = 0) })),
@@ -374,6 +426,20 @@ pub static MUTANTS: &[Mutant] = &[
     wrong("level of an ImageQuery's size stays", Accepted(|p| p.each(EXPRESSIONS, |old, new| if old[0] == IMAGE_QUERY && old[2] == 0 { new[3] = old[3] }))),
     wrong("type of kind 30 stays", Accepted(|p| p.stays(EXPRESSIONS, 30, 1))),
     wrong("operand of kind 31 is N where it is the first expression", Accepted(|p| p.each(EXPRESSIONS, |old, new| if old[0] == 31 && new[1] == 0 { new[1] = N }))),
+    // Spans: dropped, another record's, read, judged.
+    wrong("start of a type's span is 0", Accepted(|p| p.tails(TYPES, |_, new| new[START] = 0))),
+    wrong("span of a constant is N", Accepted(|p| p.tails(CONSTANTS, |_, new| new[..TAG].fill(N)))),
+    wrong("exchanges start and length of an override", Accepted(|p| p.tails(OVERRIDES, |_, new| new.swap(START, LENGTH)))),
+    wrong("a global has the next one's span", Accepted(|p| p.spans_from(GLOBALS, |place, _| place + 1))),
+    wrong("spans of the expressions stay where they were", Accepted(|p| p.spans_from(EXPRESSIONS, |_, new| new))),
+    wrong("length of an expression's span becomes its end", Accepted(|p| p.tails(EXPRESSIONS, |old, new| new[LENGTH] = old[START].wrapping_add(old[LENGTH])))),
+    wrong("start of a type's span is moved as a handle", Accepted(|p| { let map = p.map(TYPES).to_vec(); p.tails(TYPES, |old, new| new[START] = maps::adjust(&map, old[START])[1]) })),
+    wrong("length of a constant's span in sixteen bits", Accepted(|p| p.tails(CONSTANTS, |_, new| new[LENGTH] &= 0xffff))),
+    wrong("a span of 0 and 0 becomes N and N", Accepted(|p| for area in 0..5 { p.tails(area, |_, new| if new[..TAG] == [0, 0] { new[..TAG].fill(N) }) })),
+    wrong("spans of dropped expressions stay", Accepted(|p| p.freed_spans_stay(EXPRESSIONS))),
+    wrong("spans of dropped globals stay with No", Accepted(|p| if !p.keep { p.freed_spans_stay(GLOBALS) })),
+    wrong("refuses a span of N and N with 6", Accepted(|p| p.refuse_span(6, |start, length| [start, length] == [N, N]))),
+    wrong("refuses a span whose end passes 32 bits with 4", Accepted(|p| p.refuse_span(4, |start, length| start.checked_add(length).is_none()))),
     // What is past the kept records.
     wrong("last word of the types stays", Accepted(|p| p.end_stays(TYPES))),
     wrong("last member stays", Accepted(|p| p.end_stays(MEMBERS))),
@@ -415,17 +481,18 @@ pub static MUTANTS: &[Mutant] = &[
     wrong("does not follow the offset of an ImageSample", Keeps(|flat, _| set(flat, EXPRESSIONS, 5, N, |record| record[0] == IMAGE_SAMPLE))),
     // Only at the limits.
     large(Edge(TYPES), "all 65,536 types kept: tag of the last one", Accepted(|p| if p.full(TYPES) { bump(p.area(TYPES).last_mut()) })),
+    large(Edge(CONSTANTS), "all 65,536 constants kept: span of the last one", Accepted(|p| if p.full(CONSTANTS) { p.put_span(CONSTANTS, LAST, [0, 0]) })),
     large(Edge(CONSTANTS), "all 65,536 constants kept: counts 65,535", Accepted(|p| if p.full(CONSTANTS) { p.answer.counts[CONSTANTS] -= 1 })),
     large(Edge(OVERRIDES), "all 65,536 overrides kept: last word of their map", Accepted(|p| if p.full(OVERRIDES) { p.map(OVERRIDES)[LAST] = N })),
-    large(Edge(GLOBALS), "all 65,536 globals kept with No: the last one is N", Accepted(|p| if p.full(GLOBALS) && !p.keep { p.area(GLOBALS)[3 * LAST..].fill(N) })),
-    large(Edge(EXPRESSIONS), "all 65,536 expressions kept: the last one is N", Accepted(|p| if p.full(EXPRESSIONS) { p.area(EXPRESSIONS)[11 * LAST..].fill(N) })),
+    large(Edge(GLOBALS), "all 65,536 globals kept with No: the last one is N", Accepted(|p| if p.full(GLOBALS) && !p.keep { p.area(GLOBALS)[WIDTHS[GLOBALS] * LAST..].fill(N) })),
+    large(Edge(EXPRESSIONS), "all 65,536 expressions kept: the last one is N", Accepted(|p| if p.full(EXPRESSIONS) { p.area(EXPRESSIONS)[WIDTHS[EXPRESSIONS] * LAST..].fill(N) })),
     large(Edge(EXPRESSIONS), "all 65,536 expressions kept, components not at their limit", Accepted(|p| if p.full(EXPRESSIONS) && !p.full(COMPONENTS) { bump(p.area(EXPRESSIONS).last_mut()) })),
     large(Edge(MEMBERS), "all 262,144 members kept: the last one", Accepted(|p| if p.full(MEMBERS) { bump(p.area(MEMBERS).last_mut()) })),
     large(Edge(COMPONENTS), "all 262,144 components kept: counted in 18 bits", Accepted(|p| p.answer.counts[COMPONENTS] &= 0x3ffff)),
     large(Live(Share::All), "all five arenas kept whole: the first mention", Accepted(|p| if (0..5).all(|area| p.full(area)) { p.area(MENTIONS)[1] ^= 1 })),
     large(Live(Share::None), "nothing kept of five arenas at their limit: the first type stays", Accepted(|p| if !p.keep && (0..5).all(|area| p.flat.records(area) == LIMITS[area] && p.answer.counts[area] == 0) { p.next_stays(TYPES) })),
     large(Edge(MENTIONS), "65,536 mentions: the last one stays", Accepted(|p| if p.flat.records(MENTIONS) == LIMITS[MENTIONS] { p.end_stays(MENTIONS) })),
-    large(Edge(GLOBALS), "does not see mention 65,536", Keeps(|flat, _| flat.areas[MENTIONS].truncate(2 * LAST))),
+    large(Edge(GLOBALS), "does not see mention 65,536", Keeps(|flat, _| flat.areas[MENTIONS].truncate(WIDTHS[MENTIONS] * LAST))),
     large(Edge(TYPES), "refuses 65,536 records of an arena with 2", Accepted(|p| if let Some(area) = arena_from(p.flat, LIMITS[TYPES]) { p.refuse(2, area, 0) })),
     large(Edge(MEMBERS), "refuses 262,144 members with 2", Accepted(|p| if p.flat.records(MEMBERS) == LIMITS[MEMBERS] { p.refuse(2, MEMBERS, 0) })),
     // Limits, marks and words of fewer bits, as a module with less room could have them.
@@ -457,6 +524,7 @@ pub static MUTANTS: &[Mutant] = &[
     wrong("writes a member on a 7", Refused(|p| if p.answer.number == 7 { bump(p.area(MEMBERS).first_mut()) })),
     wrong("writes the first type on a 7", Refused(|p| if p.answer.number == 7 { bump(p.area(TYPES).first_mut()) })),
     wrong("writes the tag of the last expression on a 7", Refused(|p| if p.answer.number == 7 { bump(p.area(EXPRESSIONS).last_mut()) })),
+    wrong("writes the span of the last global on a 7", Refused(|p| if let (7, last @ 1..) = (p.answer.number, p.flat.records(GLOBALS)) { p.put_span(GLOBALS, last - 1, [N, N]) })),
     wrong("writes the constants on a 4", Refused(|p| if p.answer.number == 4 { p.area(CONSTANTS).fill(N) })),
     wrong("writes the first override on a 5", Refused(|p| if p.answer.number == 5 { bump(p.area(OVERRIDES).first_mut()) })),
     wrong("writes the last component on a 6", Refused(|p| if p.answer.number == 6 { bump(p.area(COMPONENTS).last_mut()) })),
@@ -472,7 +540,7 @@ pub static MUTANTS: &[Mutant] = &[
     large(Past, "has no limits", Refused(|p| if p.answer.number == 2 { p.accept() })),
     wrong("accepts a map that is one word short", Refused(|p| if p.answer.number == 3 && p.told_records() == p.flat.rooms[p.told_area()] + 1 { p.accept() })),
     wrong("accepts a run whose end passes 32 bits", Refused(|p| if p.answer.number == 4 && p.told_run_wraps() { p.accept() })),
-    wrong("accepts any x of an ImageSample that has none", Refused(|p| if p.at(4, EXPRESSIONS) && matches!(p.told(), [IMAGE_SAMPLE, .., 0 | 1, x, _, _, _] if *x != N) { p.accept() })),
+    wrong("accepts any x of an ImageSample that has none", Refused(|p| if p.at(4, EXPRESSIONS) && matches!(p.told(), [IMAGE_SAMPLE, _, _, _, _, _, 0 | 1, x, ..] if *x != N) { p.accept() })),
     wrong("accepts a mention of a type that is not there", Refused(|p| if p.at(6, MENTIONS) && p.told()[0] == 0 { p.accept() })),
     wrong("accepts a 7 of a type and keeps what is reached", Refused(|p| if p.at(7, TYPES) { p.accept_reached() })),
     wrong("accepts a 7 of an expression and keeps what is reached", Refused(|p| if p.at(7, EXPRESSIONS) { p.accept_reached() })),
@@ -490,7 +558,8 @@ pub static MUTANTS: &[Mutant] = &[
     large(Past, "check passes one record above a limit", Check(|flat, answer| if answer.number == 2 && flat.records(answer.area as usize) == LIMITS[answer.area as usize] + 1 { *answer = Answer::default() })),
     large(Edge(MENTIONS), "check refuses 65,536 mentions", Check(|flat, answer| if flat.records(MENTIONS) == LIMITS[MENTIONS] { *answer = Refusal::new(2, MENTIONS, 0).answer() })),
     wrong("check counts what it accepts", Check(|flat, answer| if answer.number == 0 { answer.counts[TYPES] = flat.records(TYPES) as u32 })),
-    wrong("check passes a type of N", Check(|flat, answer| if told(flat, answer) == [N; 5] { *answer = Answer::default() })),
+    wrong("check passes a type of N", Check(|flat, answer| if told(flat, answer) == [N; WIDTHS[TYPES]] { *answer = Answer::default() })),
+    wrong("check refuses a start of N with 6", Check(|flat, answer| if let (0, Some((area, place))) = (answer.number, odd_span(flat, |start, _| start == N)) { *answer = Refusal::new(6, area, place).answer() })),
     // Map entries.
     wrong("lookup past the end of a map is 0", Lookup(|map, handle, answer| if handle as usize == map.len() { *answer = 0 })),
     wrong("lookup of N is 0", Lookup(|_, handle, answer| if handle == N { *answer = 0 })),

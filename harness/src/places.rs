@@ -1,11 +1,11 @@
 //! Where elements hold their handles, in the order of document 01's slots. One table for both directions: words are read
 //! from it, and new handles are written through it.
 
-use crate::flat::{ABSTRACT, N, NAMED};
-use crate::handles::{option_word, word};
+use crate::flat::*;
+use crate::handles::{option_word, tail, word};
 use naga::{
-    ArraySize, Constant, Expression, Function, GlobalVariable, Handle, ImageQuery, Override,
-    SampleLevel, StructMember, Type, TypeInner,
+    ArraySize, Constant, Expression, Function, GlobalVariable, Handle, ImageQuery, Module,
+    Override, SampleLevel, StructMember, Type, TypeInner,
 };
 
 /// What stands in one slot.
@@ -178,8 +178,36 @@ fn put(places: &[Place<'_>], words: &mut [u32], pool: &mut Vec<u32>) {
     }
 }
 
+/// The words of areas 0 to 6, with the spans that the elements have; every tag is N. `is_abstract` tells which types
+/// are.
+pub fn words(module: &Module, is_abstract: impl Fn(Handle<Type>) -> bool) -> [Vec<u32>; 8] {
+    let mut flat = Flat::default();
+    for (at, ty) in module.types.iter() {
+        let body = type_words(ty, is_abstract(at), &mut flat.areas[MEMBERS]);
+        flat.push_with(TYPES, &body, tail(module.types.get_span(at), N));
+    }
+    for (at, item) in module.constants.iter() {
+        let tail = tail(module.constants.get_span(at), N);
+        flat.push_with(CONSTANTS, &constant_words(item), tail);
+    }
+    for (at, item) in module.overrides.iter() {
+        let tail = tail(module.overrides.get_span(at), N);
+        flat.push_with(OVERRIDES, &override_words(item), tail);
+    }
+    for (at, item) in module.global_variables.iter() {
+        let tail = tail(module.global_variables.get_span(at), N);
+        flat.push_with(GLOBALS, &global_words(item), tail);
+    }
+    for (at, item) in module.global_expressions.iter() {
+        let body = expression_words(item, &mut flat.areas[COMPONENTS]);
+        let tail = tail(module.global_expressions.get_span(at), N);
+        flat.push_with(EXPRESSIONS, &body, tail);
+    }
+    flat.areas
+}
+
 /// Kind, flags, a and b; the members go to the pool.
-pub fn type_words(ty: &Type, is_abstract: bool, members: &mut Vec<u32>) -> [u32; 4] {
+fn type_words(ty: &Type, is_abstract: bool, members: &mut Vec<u32>) -> [u32; BODIES[TYPES]] {
     let named = if ty.name.is_some() { NAMED } else { 0 };
     let flag = if is_abstract { ABSTRACT } else { 0 };
     let mut inner = ty.inner.clone();
@@ -190,12 +218,12 @@ pub fn type_words(ty: &Type, is_abstract: bool, members: &mut Vec<u32>) -> [u32;
 }
 
 /// Named, type and init.
-pub fn constant_words(item: &Constant) -> [u32; 3] {
+fn constant_words(item: &Constant) -> [u32; BODIES[CONSTANTS]] {
     [item.name.is_some().into(), word(item.ty), word(item.init)]
 }
 
 /// Named, type and init.
-pub fn override_words(item: &Override) -> [u32; 3] {
+fn override_words(item: &Override) -> [u32; BODIES[OVERRIDES]] {
     [
         item.name.is_some().into(),
         word(item.ty),
@@ -204,15 +232,18 @@ pub fn override_words(item: &Override) -> [u32; 3] {
 }
 
 /// Type and init.
-pub fn global_words(item: &GlobalVariable) -> [u32; 2] {
+fn global_words(item: &GlobalVariable) -> [u32; BODIES[GLOBALS]] {
     [word(item.ty), option_word(item.init)]
 }
 
 /// Kind and nine slots; the components go to the pool.
-pub fn expression_words(expression: &Expression, components: &mut Vec<u32>) -> [u32; 10] {
+fn expression_words(
+    expression: &Expression,
+    components: &mut Vec<u32>,
+) -> [u32; BODIES[EXPRESSIONS]] {
     let mut own = expression.clone();
     let (kind, places) = expression_places(&mut own);
-    let mut words = [N; 10];
+    let mut words = [N; BODIES[EXPRESSIONS]];
     words[0] = kind;
     put(&places, &mut words[1..], components);
     words

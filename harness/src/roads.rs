@@ -107,7 +107,7 @@ const TYPE_ROADS: [Road; 9] = [
 /// A road for each mention, at random.
 pub fn choose(flat: &Flat, rng: &mut Rng) -> Vec<Road> {
     let mut by_area: [Vec<usize>; 5] = Default::default();
-    for (number, mention) in flat.areas[MENTIONS].chunks(2).enumerate() {
+    for (number, mention) in flat.each(MENTIONS).enumerate() {
         by_area[mention[0] as usize].push(number);
     }
     let mut roads = vec![Road::Constant; flat.records(MENTIONS)];

@@ -11,7 +11,7 @@ use crate::generate::good::{good, nearly, Size};
 use crate::generate::large::{large, FIRST};
 use crate::generate::small::Small;
 use crate::generate::wild::wild;
-use crate::generate::Foretold;
+use crate::generate::{spread, Foretold};
 use crate::library::Library;
 #[cfg(files)]
 use crate::made_maps;
@@ -239,9 +239,10 @@ struct Bench<'a> {
 }
 
 impl Bench<'_> {
-    /// Judges one module and counts its verdict.
+    /// Judges one module, with spans, and counts its verdict.
     fn judge(&mut self, flat: Flat, foretold: Foretold) -> Verdict {
         let seed = self.rng.next();
+        let flat = spread(flat, seed);
         match judge(self.library, &flat, foretold, seed, self.stats) {
             Ok(expected) => {
                 let number = expected.map_or(0, |refusal| refusal.number);
@@ -396,6 +397,7 @@ fn tiny_failure(library: &dyn Library, failure: &Failure) -> Option<(Flat, u64)>
             2 => wild(&mut rng),
             _ => damage(&mut rng, |rng| good(rng, size))?.0,
         };
+        let flat = spread(flat, seed);
         let result = judge(library, &flat, Foretold::Nothing, seed, &mut stats);
         result.is_err().then_some((flat, seed))
     })

@@ -79,6 +79,8 @@ struct Pass {
     valid: [Verdict; 2],
     /// Handles that the crate left under their old numbers.
     stale: usize,
+    /// Elements that the library kept with a span and without one.
+    spans: [usize; 2],
     /// Where the two parted.
     same: Verdict,
 }
@@ -91,23 +93,28 @@ struct Left {
     stale: usize,
 }
 
-/// A shader with its elements numbered, and the same with its functions settled.
+/// A shader as it was read; with its elements numbered; and so with its functions settled.
 struct Shader {
     module: Module,
+    numbered: Module,
     settled: Module,
 }
 
 impl Shader {
-    fn new(mut module: Module) -> Result<Self, String> {
-        host::number(&mut module);
-        let settled = caught(|| host::settle(&module))??;
-        Ok(Shader { module, settled })
+    fn new(module: Module) -> Result<Self, String> {
+        let numbered = host::numbered(&module);
+        let settled = caught(|| host::settle(&numbered))??;
+        Ok(Shader {
+            module,
+            numbered,
+            settled,
+        })
     }
 
     /// The words, with the mentions of the functions that count.
     fn words(&mut self, reached: &[bool]) -> Flat {
         let mut flat = Flat {
-            areas: host::words(&self.settled),
+            areas: host::tagged(&self.module, &host::numbers(&self.numbered)),
             rooms: [0; 5],
         };
         flat.areas[MENTIONS] = host::mentions(&mut self.settled, reached);
@@ -115,20 +122,18 @@ impl Shader {
         flat
     }
 
-    /// Compacts by the crate. The maps are read off the numbers that the elements carry.
+    /// Compacts by the crate, once as it was read and once numbered: the first tells the spans, the second the maps.
     fn by_crate(&self, flat: &Flat, keep: bool) -> Result<Left, String> {
-        let mut module = self.module.clone();
-        let mode = match keep {
-            true => KeepUnused::Yes,
-            false => KeepUnused::No,
-        };
-        caught(|| compact(&mut module, mode)).map_err(|panic| format!("naga panics at {panic}"))?;
+        let mut module = by_crate(&self.module, keep)?;
+        let numbered = by_crate(&self.numbered, keep)?;
+        same_module("naga's pass over other spans", &module, &numbered)?;
         let valid = valid(&module);
-        let mut areas = host::words(&module);
+        let numbers = host::numbers(&numbered);
+        let mut areas = host::tagged(&module, &numbers);
         let maps: [Vec<u32>; 5] = std::array::from_fn(|area| {
             let mut map = vec![N; flat.records(area)];
-            for (new, record) in areas[area].chunks(WIDTHS[area]).enumerate() {
-                map[record[WIDTHS[area] - 1] as usize] = new as u32;
+            for (new, old) in numbers[area].iter().enumerate() {
+                map[*old as usize] = new as u32;
             }
             map
         });
@@ -163,10 +168,9 @@ impl Shader {
             (_, 0) => {}
             _ => return Err(format!("refused: {answer:?}")),
         }
-        let maps = lent.maps.each_ref().map(|map| map.get().to_vec());
-        let rebuilt = host::rebuild(library, &self.settled, &reached, &maps);
+        let rebuilt = host::rebuild(library, &self.settled, &reached, &lent);
         let same = same_pass("the library against naga", answer, &lent, &left.after)
-            .and_then(|()| same_module(&left.module, rebuilt.as_ref().map_err(String::clone)?))
+            .and_then(|()| same_rebuilt(&left.module, rebuilt.as_ref().map_err(String::clone)?))
             .and_then(|()| as_generated(library, &flat));
         Ok(Some(Pass {
             before: std::array::from_fn(|area| flat.records(area) as u32),
@@ -174,8 +178,22 @@ impl Shader {
             by_library: std::array::from_fn(|area| answer.counts[area]),
             valid: [left.valid, rebuilt.and_then(|module| valid(&module))],
             stale: left.stale,
+            spans: spans(&answer, &lent),
             same,
         }))
+    }
+}
+
+/// What the crate leaves of a module.
+fn by_crate(module: &Module, keep: bool) -> Result<Module, String> {
+    let mut module = module.clone();
+    let mode = match keep {
+        true => KeepUnused::Yes,
+        false => KeepUnused::No,
+    };
+    match caught(|| compact(&mut module, mode)) {
+        Ok(()) => Ok(module),
+        Err(panic) => Err(format!("naga panics at {panic}")),
     }
 }
 
@@ -185,6 +203,19 @@ fn as_generated(library: &dyn Library, flat: &Flat) -> Verdict {
         Ok(_) => Ok(()),
         Err(difference) => Err(difference.what),
     }
+}
+
+/// How many elements a pass kept with a span and without one.
+fn spans(answer: &Answer, lent: &Lent) -> [usize; 2] {
+    let mut numbers = [0, 0];
+    for area in 0..5 {
+        let records = lent.areas[area].get().chunks_exact(WIDTHS[area]);
+        for record in records.take(answer.counts[area] as usize) {
+            let [start, length, _] = tail(area, record);
+            numbers[usize::from([start, length] == [0, 0])] += 1;
+        }
+    }
+    numbers
 }
 
 /// The payload that a ray stage receives: nothing in the crate's pass names it, so it stays under its old number, and
@@ -203,16 +234,25 @@ fn move_payloads(module: &mut Module, map: &[u32]) -> usize {
     moved
 }
 
-/// The rebuilt module is what the crate left, to the last statement.
-fn same_module(left: &Module, rebuilt: &Module) -> Verdict {
-    let (left, rebuilt) = (format!("{left:#?}"), format!("{rebuilt:#?}"));
-    if left == rebuilt {
+/// The rebuilt module is what the crate left, to the last statement and with the spans of the arenas.
+fn same_rebuilt(left: &Module, rebuilt: &Module) -> Verdict {
+    same_module("the rebuilt module", left, rebuilt)?;
+    match host::untagged(left) == host::untagged(rebuilt) {
+        true => Ok(()),
+        false => Err(String::from("the rebuilt module has other spans")),
+    }
+}
+
+/// Two modules are the same to the last statement; spans aside, which do not show.
+fn same_module(who: &str, wanted: &Module, module: &Module) -> Verdict {
+    let (wanted, module) = (format!("{wanted:#?}"), format!("{module:#?}"));
+    if wanted == module {
         return Ok(());
     }
-    let mut lines = rebuilt.lines().zip(left.lines());
+    let mut lines = module.lines().zip(wanted.lines());
     let parted = lines.find(|(a, b)| a != b).unwrap_or(("the end", "more"));
-    let (rebuilt, left) = (parted.0.trim(), parted.1.trim());
-    Err(format!("the rebuilt module: {rebuilt} and not {left}"))
+    let (module, wanted) = (parted.0.trim(), parted.1.trim());
+    Err(format!("{who}: {module} and not {wanted}"))
 }
 
 /// What came of some shaders.
@@ -227,6 +267,8 @@ struct Totals {
     large: usize,
     /// Handles that the crate left under their old numbers.
     stale: usize,
+    /// Elements that the library kept with a span and without one.
+    spans: [usize; 2],
     parted: usize,
     /// What is to be said below the table.
     remarks: Vec<String>,
@@ -288,6 +330,9 @@ impl Totals {
             said(&pass.valid[1]),
         );
         self.stale += pass.stale;
+        for (all, some) in self.spans.iter_mut().zip(pass.spans) {
+            *all += some;
+        }
         self.invalid[1] += usize::from(pass.valid.iter().any(Result::is_err));
         self.parted += usize::from(pass.same.is_err() || pass.valid[0] != pass.valid[1]);
         if let Err(why) = &pass.same {
@@ -316,6 +361,10 @@ impl Totals {
         println!(
             "payloads that naga left under their old numbers: {}",
             self.stale
+        );
+        println!(
+            "elements that the library kept: {} with a span of the front end, {} without",
+            self.spans[0], self.spans[1]
         );
         if self.passes == 0 {
             println!("no shader was compared");

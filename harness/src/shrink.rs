@@ -224,7 +224,7 @@ fn move_down(flat: &mut Flat, area: usize, place: u32, gone: u32) {
             *word = new(*word);
         }
     }
-    for mention in flat.areas[MENTIONS].chunks_exact_mut(2) {
+    for mention in flat.each_mut(MENTIONS) {
         if mention[0] as usize == area {
             mention[1] = new(mention[1]);
         }

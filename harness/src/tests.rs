@@ -9,8 +9,8 @@ use crate::generate::good::{good, nearly, Size, LEAST_LARGE};
 use crate::generate::large::{large, turn, Share, Turn, FIRST};
 use crate::generate::small::Small;
 use crate::generate::wild::wild;
-use crate::generate::Foretold;
-use crate::library::{Library, Restated};
+use crate::generate::{spread, Foretold};
+use crate::library::{Lent, Library, Restated};
 use crate::mutants::{self, MUTANTS};
 use crate::report::Stats;
 use crate::rng::Rng;
@@ -25,7 +25,7 @@ const RIGHT: &dyn Library = &crate::ffi::Linked;
 #[cfg(not(library))]
 const RIGHT: &dyn Library = &Restated;
 
-/// Modules of every generator, with what is foretold of them.
+/// Modules of every generator, with spans, and what is foretold of them.
 fn modules(seed: u64, count: usize) -> Vec<(Flat, Foretold)> {
     let mut rng = Rng::new(seed);
     let mut list = Vec::new();
@@ -42,7 +42,8 @@ fn modules(seed: u64, count: usize) -> Vec<(Flat, Foretold)> {
             list.push((flat, Foretold::Refused(refusal)));
         }
     }
-    list
+    let spread = |(flat, foretold)| (spread(flat, seed), foretold);
+    list.into_iter().map(spread).collect()
 }
 
 /// What parted on the first module where something did.
@@ -130,8 +131,8 @@ fn a_failing_module_shrinks() {
     let large = good(&mut rng, Size::Medium);
     let has_sample = |flat: &Flat| {
         expect_check(flat).is_none()
-            && flat.areas[EXPRESSIONS]
-                .chunks(11)
+            && flat
+                .each(EXPRESSIONS)
                 .any(|record| record[0] == IMAGE_SAMPLE)
     };
     assert!(has_sample(&large));
@@ -176,6 +177,15 @@ fn small_modules_are_all_different() {
         let all = (small.shape(number), flat.areas);
         assert!(seen.insert(all), "{number}");
     }
+}
+
+/// Document 01's table, with the spans of Ask 9: words of a record, and bytes of all thirteen slices.
+#[test]
+fn the_records_are_the_papers() {
+    assert_eq!(WIDTHS, [7, 6, 6, 5, 13, 1, 1, 2]);
+    let words: usize = (0..8).map(|area| LIMITS[area] * WIDTHS[area]).sum();
+    let maps: usize = LIMITS[..5].iter().sum();
+    assert_eq!(4 * (words + maps), 13 << 20);
 }
 
 /// Document 01's table, with what Ask 6 raised.
@@ -289,20 +299,20 @@ fn map_entries_of_case_7() {
 
 /// Document 01's cases 1, 2, 4, 5, 6, 9, 10, 11 and 12, and the line that each must give.
 const WORKED: &str = "
-1 1 0 10 0 0 N N 10 2 1 0 0 11 0 4 0 0 1 0 0 22 0 9*N 20 0 9*N 21 0 0 0 2 0 1 0 2
-2 0 0 10 0 0 N N 10 2 1 0 0 11 0 4 0 0 1 0 0 22 0 9*N 20 0 9*N 21 0 0 0 2 0 1 0 2
-41 1 0 5 0 0 N N 0 4 0 0 0 0 0 0 11 5 0 8*N 0 0 0 0 1 1 0 0 1
-42 1 0 5 0 0 N N 0 4 0 0 0 0 0 0 22 0 9*N 0 5 0 8*N 0 0 0 0 1 1 0 0 2
-51 1 0 15 0 0 N N 0 2 0 0 0 0 0 0 N N 0 0 4 0 0 1 0 0 22 7 2 8*N 0 0 9*N 0 0 0 0 3 0 1 0 2
-52 1 0 15 0 0 N N 0 2 0 0 0 0 0 0 N N 0 0 4 0 0 1 0 0 33 0 9*N 0 0 9*N 0 7 2 8*N 0 0 0 0 3 0 1 0 3
-61 1 0 5 0 2 N N 0 4 1 0 0 0 0 0 11 0 9*N 0 0 0 0 1 1 0 0 1
-62 1 0 5 0 0 N N 0 4 1 0 0 0 0 0 11 0 9*N 0 0 0 0 1 1 0 0 1
-91 1 0 0 0 0 0 22 0 9*N 0 33 0 0 0 6*N 0 0 0 0 0 0 0 0 2
-92 1 0 0 0 0 0 22 0 9*N 0 34 9*N 0 0 0 0 0 0 0 0 2
-93 1 0 0 0 0 0 22 0 9*N 0 13 9*N 0 0 0 0 0 0 0 0 2
-10 1 0 5 1 0 9 N 0 0 0 0 11 34 9*N 0 0 0 0 1 0 0 0 1
+1 1 0 14 0 0 N N 0 0 10 2 1 0 0 0 0 11 0 6 0 0 1 0 0 0 0 26 0 9*N 0 0 20 0 9*N 0 0 21 0 0 0 2 0 1 0 2
+2 0 0 14 0 0 N N 0 0 10 2 1 0 0 0 0 11 0 6 0 0 1 0 0 0 0 26 0 9*N 0 0 20 0 9*N 0 0 21 0 0 0 2 0 1 0 2
+41 1 0 7 0 0 N N 0 0 0 6 0 0 0 0 0 0 0 0 13 5 0 8*N 0 0 0 0 0 0 1 1 0 0 1
+42 1 0 7 0 0 N N 0 0 0 6 0 0 0 0 0 0 0 0 26 0 9*N 0 0 0 5 0 8*N 0 0 0 0 0 0 1 1 0 0 2
+51 1 0 21 0 0 N N 0 0 0 2 0 0 0 0 0 0 0 0 N N 0 0 0 0 6 0 0 1 0 0 0 0 26 7 2 8*N 0 0 0 0 9*N 0 0 0 0 0 0 3 0 1 0 2
+52 1 0 21 0 0 N N 0 0 0 2 0 0 0 0 0 0 0 0 N N 0 0 0 0 6 0 0 1 0 0 0 0 39 0 9*N 0 0 0 0 9*N 0 0 0 7 2 8*N 0 0 0 0 0 0 3 0 1 0 3
+61 1 0 7 0 2 N N 0 0 0 6 1 0 0 0 0 0 0 0 13 0 9*N 0 0 0 0 0 0 1 1 0 0 1
+62 1 0 7 0 0 N N 0 0 0 6 1 0 0 0 0 0 0 0 13 0 9*N 0 0 0 0 0 0 1 1 0 0 1
+91 1 0 0 0 0 0 26 0 9*N 0 0 0 33 0 0 0 6*N 0 0 0 0 0 0 0 0 0 0 2
+92 1 0 0 0 0 0 26 0 9*N 0 0 0 34 9*N 0 0 0 0 0 0 0 0 0 0 2
+93 1 0 0 0 0 0 26 0 9*N 0 0 0 13 9*N 0 0 0 0 0 0 0 0 0 0 2
+10 1 0 7 1 0 9 N 0 0 0 0 0 0 13 34 9*N 0 0 0 0 0 0 1 0 0 0 1
 11 1 0 0 0 0 0 0 0 0 0 0 0 0 0 0
-12 0 0 15 0 0 N N 1 0 0 N N 2 0 0 N N 3 0 0 0 0 0 0 4 0 1 0 1 3 0 0 0 0
+12 0 0 21 0 0 N N 0 0 1 0 0 N N 0 0 2 0 0 N N 0 0 3 0 0 0 0 0 0 4 0 1 0 1 3 0 0 0 0
 ";
 const WORKED_LINES: &str = "\
 1 0 0 0 2 0 1 0 1 0 0
@@ -321,13 +331,128 @@ const WORKED_LINES: &str = "\
 12 0 0 0 1 0 0 0 0 0 0
 ";
 
+/// The cases as they are, and with spans.
 #[test]
 fn worked_cases() {
     let cases = parse(WORKED).expect("they are cases");
-    for library in [RIGHT, &Restated] {
-        let lines: String = cases.iter().map(|case| replayed(library, case)).collect();
-        assert_eq!(lines, WORKED_LINES);
+    let spread = cases.iter().map(|case| Case {
+        flat: spread(case.flat.clone(), u64::from(case.number)),
+        ..case.clone()
+    });
+    for cases in [cases.clone(), spread.collect()] {
+        for library in [RIGHT, &Restated] {
+            let lines: String = cases.iter().map(|case| replayed(library, case)).collect();
+            assert_eq!(lines, WORKED_LINES);
+        }
     }
+}
+
+/// What case 1 leaves, with a span in each record.
+#[test]
+fn case_1_with_spans() {
+    let asked = "1 1 1 14 0 0 N N 1 2 10 2 1 0 0 3 N 11 0 6 0 0 1 5 0 0 0 26 0 9*N 7 8 20 0 9*N 9 4 21 0 0 0 2 0 1 0 2";
+    let wanted = "1 0 0 0 2 0 1 0 1 0 0
+types 0 0 N N 1 2 10 2 1 0 0 3 N 11
+constants
+overrides 0 0 0 5 0 0
+globals
+expressions 0 N N N N N N N N N 9 4 21 N N N N N N N N N N N N N
+members
+components
+mentions
+type_map 0 1
+constant_map
+override_map 0
+global_map
+expression_map N 0
+";
+    let cases = parse(asked).expect("it is a case");
+    for library in [RIGHT, &Restated] {
+        assert_eq!(replayed(library, &cases[0]), wanted);
+    }
+}
+
+/// A pass that leaves one word of one span otherwise is caught, in each arena; and of a dropped record's too.
+#[test]
+fn a_wrong_word_of_a_span_is_caught() {
+    for area in 0..5 {
+        for word in [START, LENGTH] {
+            for kept in [true, false] {
+                let library = WrongSpan { area, word, kept };
+                let caught = first_difference(&library);
+                let told = caught
+                    .as_ref()
+                    .is_some_and(|what| what.contains(AREAS[area]));
+                assert!(told, "{} {word} {kept}: {caught:?}", AREAS[area]);
+            }
+        }
+    }
+}
+
+/// The right library, but for one word of the last span of an arena that is kept, or is not.
+struct WrongSpan {
+    area: usize,
+    word: usize,
+    kept: bool,
+}
+
+impl Library for WrongSpan {
+    fn compact(&self, lent: &mut Lent, keep: bool) -> Answer {
+        let answer = RIGHT.compact(lent, keep);
+        let area = self.area;
+        let records = lent.areas[area].get().len() / WIDTHS[area];
+        let kept = answer.counts[area] as usize;
+        let end = if self.kept { kept } else { records };
+        if answer.number == 0 && end > if self.kept { 0 } else { kept } {
+            let at = (end - 1) * WIDTHS[area] + BODIES[area] + self.word;
+            lent.areas[area].get_mut()[at] ^= 1;
+        }
+        answer
+    }
+
+    fn check(&self, lent: &Lent) -> Answer {
+        RIGHT.check(lent)
+    }
+
+    fn lookup(&self, map: &[u32], handle: u32) -> u32 {
+        RIGHT.lookup(map, handle)
+    }
+
+    fn adjust(&self, map: &[u32], handle: u32) -> [u32; 2] {
+        RIGHT.adjust(map, handle)
+    }
+
+    fn adjust_range(&self, map: &[u32], start: u32, end: u32) -> [u32; 3] {
+        RIGHT.adjust_range(map, start, end)
+    }
+}
+
+/// Start and length of each record.
+fn spans(flat: &Flat) -> Vec<[u32; 2]> {
+    let each = |area| {
+        let tails = flat.each(area).map(move |record| tail(area, record));
+        tails.map(|[start, length, _]| [start, length])
+    };
+    (0..5).flat_map(each).collect()
+}
+
+/// In every module no record has the span of the one before it, and all sorts of words are there.
+#[test]
+fn spans_differ_from_record_to_record() {
+    let mut seen = std::collections::BTreeSet::new();
+    for (flat, _) in modules(13, 200) {
+        let spans = spans(&flat);
+        assert!(spans.windows(2).all(|pair| pair[0] != pair[1]), "{flat:?}");
+        seen.extend(spans);
+    }
+    for odd in [[0, 0], [N, N]] {
+        assert!(seen.contains(&odd));
+    }
+    let has = |fits: fn(&[u32; 2]) -> bool| seen.iter().any(fits);
+    assert!(has(|[start, length]| *start == 0 && *length > 0));
+    assert!(has(|[start, length]| *start == N && *length < N));
+    assert!(has(|[start, length]| *start < N && *length == N));
+    assert!(has(|[start, length]| *start > 0 && *length == 0));
 }
 
 #[test]
@@ -348,7 +473,12 @@ fn recorded_answers_hold() {
     for file in replay::recorded_files().expect("they are here") {
         let text = std::fs::read_to_string(&file).expect("it can be read");
         assert!(text.len() < 8192);
-        assert!(parse(&text).expect("they are cases").iter().all(Case::fits));
+        for case in parse(&text).expect("they are cases") {
+            assert!(case.fits());
+            let spans = spans(&case.flat);
+            let own: std::collections::BTreeSet<_> = spans.iter().collect();
+            assert_eq!(own.len(), spans.len(), "case {}", case.number);
+        }
         for library in [RIGHT, &Restated] {
             let (_, difference) = replay::replay(library, &file).expect("it can be read");
             assert_eq!(difference, None, "{}", file.display());
@@ -459,7 +589,7 @@ fn the_crate_finds_out_what_is_abstract() {
 fn there_are_predeclared_types_for_all_mentions() {
     use crate::{roads, rust};
     let mut flat = Flat::default();
-    flat.push(TYPES, &[0, 0, N, N, 0]);
+    flat.push_with(TYPES, &[0, 0, N, N], [0; 3]);
     for _ in 0..LIMITS[MENTIONS] {
         flat.push(MENTIONS, &[TYPES as u32, 0]);
     }
@@ -471,6 +601,55 @@ fn there_are_predeclared_types_for_all_mentions() {
     assert_eq!(all.count(), roads::PREDECLARED);
     let outcome = rust::run(&flat, false, &chosen, 1);
     assert!(matches!(outcome, rust::Outcome::Through(..)));
+}
+
+/// What is read of a module after a pass does not hang on its spans but for the spans themselves.
+#[cfg(published)]
+#[test]
+fn spans_do_not_tell_which_record_is_which() {
+    use crate::{convert, roads};
+    use naga::compact::{compact, KeepUnused};
+    for seed in 0..40 {
+        let flat = spread(good(&mut Rng::new(seed), Size::Small), seed);
+        let flat = crate::types::found_flags(&flat, seed);
+        let chosen = roads::choose(&flat, &mut Rng::new(seed));
+        let mut built = convert::build(&flat, true, &chosen, &mut Rng::new(seed));
+        compact(&mut built.module, KeepUnused::Yes);
+        let after = convert::read(&flat, &built).expect("it makes sense");
+        take_spans(&mut built.module);
+        let bare = convert::read(&flat, &built).expect("it makes sense");
+        let mut wanted = after.clone();
+        for area in 0..5 {
+            let kept = after.counts[area] as usize;
+            let records = wanted.areas[area].chunks_exact_mut(WIDTHS[area]);
+            for record in records.take(kept) {
+                record[BODIES[area]..BODIES[area] + TAG].fill(0);
+            }
+        }
+        assert_eq!(bare, wanted);
+    }
+}
+
+/// Takes the span of each element of the arenas away.
+#[cfg(published)]
+fn take_spans(module: &mut naga::Module) {
+    use naga::{Arena, Span, UniqueArena};
+    fn bare<T>(arena: &mut Arena<T>) {
+        let mut other = Arena::new();
+        for (_, item, _) in arena.drain() {
+            other.append(item, Span::default());
+        }
+        *arena = other;
+    }
+    let mut types = UniqueArena::new();
+    for (_, ty) in module.types.iter() {
+        types.insert(ty.clone(), Span::default());
+    }
+    module.types = types;
+    bare(&mut module.constants);
+    bare(&mut module.overrides);
+    bare(&mut module.global_variables);
+    bare(&mut module.global_expressions);
 }
 
 /// What `docs/DIFFERENCES.md` says of the Rust and no flat module can ask.
@@ -505,6 +684,24 @@ mod beside_flat_modules {
             let names: Vec<_> = module.types.iter().map(|(_, ty)| &ty.name).collect();
             assert_eq!(names.len(), kept);
             assert!(names.iter().all(|name| name.as_deref() == Some("a")));
+        }
+    }
+
+    /// Of equal types the arena has one, with the first span, and a pass carries it.
+    #[test]
+    fn equal_types_have_the_first_span() {
+        let mut module = Module::default();
+        for end in [7, 8] {
+            let ty = Type {
+                name: Some(String::from("a")),
+                inner: TypeInner::Scalar(Scalar::U32),
+            };
+            module.types.insert(ty, Span::new(5, end));
+        }
+        for _ in 0..2 {
+            let spans = module.types.iter().map(|(at, _)| module.types.get_span(at));
+            assert_eq!(spans.collect::<Vec<_>>(), [Span::new(5, 7)]);
+            compact(&mut module, KeepUnused::Yes);
         }
     }
 
@@ -589,12 +786,19 @@ mod over_shaders {
     }
 
     /// Wrong libraries whose fault shows on the shaders.
-    const SHOWN: [&str; 22] = [
+    const SHOWN: [&str; 29] = [
         "counts one constant too many",
         "counts no components",
         "names a record though it accepts",
         "tag of a type whose handles change",
         "tag of the last expression",
+        "start of a type's span is 0",
+        "span of a constant is N",
+        "exchanges start and length of an override",
+        "a global has the next one's span",
+        "spans of the expressions stay where they were",
+        "length of an expression's span becomes its end",
+        "spans of dropped globals stay with No",
         "base of a pointer stays",
         "override of an array stays",
         "start of a struct's run stays",

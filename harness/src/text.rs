@@ -16,10 +16,10 @@ pub struct Case {
 }
 
 /// What the program `cases` has room for: records of each arena and of the mentions, and words of each pool.
-const ROOM: usize = 64;
+const ROOM: usize = 56;
 
 /// And words of each map.
-const MAP_ROOM: usize = 128;
+const MAP_ROOM: usize = 2 * ROOM;
 
 impl Case {
     /// Whether the program has room for it.

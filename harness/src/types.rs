@@ -1,19 +1,20 @@
 //! A type record as a type of the Rust.
 //!
 //! No two types of a module are equal, since the Rust's arena would make them one. A type carries its old
-//! number as far as it has room for it. Where the type that was drawn is there already, one of a sort that
-//! carries the whole number takes its place.
+//! number, in its name or in a mark, as far as it has room for it. Where the type that was drawn is there already, one
+//! of a sort that carries the whole number takes its place. What has neither holds no handle, so a pass leaves it
+//! equal to what it was.
 
 use crate::flat::*;
-use crate::handles::handle;
+use crate::handles::{handle, span, word};
 use crate::rng::Rng;
 use crate::rust::caught;
 use naga::{
     AddressSpace, ArraySize, CooperativeRole, CooperativeSize, Handle, ImageClass, ImageDimension,
-    Scalar, ScalarKind, Span, StorageAccess, StructMember, Type, TypeInner, UniqueArena,
-    VectorSize,
+    Scalar, ScalarKind, StorageAccess, StructMember, Type, TypeInner, UniqueArena, VectorSize,
 };
 use std::borrow::Cow;
+use std::collections::HashMap;
 use std::num::NonZeroU32;
 
 /// The first mark: below it lie the widths of the scalars that have names.
@@ -67,6 +68,11 @@ const fn storage(access: StorageAccess) -> AddressSpace {
     AddressSpace::Storage { access }
 }
 
+/// A space that carries a number: in bits of the access, most of which mean nothing.
+fn marked_space(number: u32) -> AddressSpace {
+    storage(StorageAccess::from_bits_retain(FIRST_MARK + number))
+}
+
 /// All types of a module. The one at `stage`, if any, is the scalar u32.
 pub fn arena(flat: &Flat, stage: Option<usize>, rng: &mut Rng) -> UniqueArena<Type> {
     let mut types = UniqueArena::new();
@@ -82,7 +88,7 @@ pub fn arena(flat: &Flat, stage: Option<usize>, rng: &mut Rng) -> UniqueArena<Ty
         if types.get(&ty).is_some() {
             ty.inner = maker.own();
         }
-        let given = types.insert(ty, Span::new(place as u32, N));
+        let given = types.insert(ty, span(flat.tail(TYPES, place)));
         assert_eq!(given.index(), place, "each type is its own");
     }
     types
@@ -160,6 +166,14 @@ impl<'a> Maker<'a> {
             && self.flat.record(TYPES, base)[1] & ABSTRACT != 0
     }
 
+    /// Any space where the name carries the number.
+    fn space(&self, any: AddressSpace) -> AddressSpace {
+        match self.named {
+            true => any,
+            false => marked_space(self.place),
+        }
+    }
+
     /// A type of any sort that the record allows.
     fn drawn(&self, rng: &mut Rng) -> TypeInner {
         match self.record[0] {
@@ -168,13 +182,13 @@ impl<'a> Maker<'a> {
             1 => match rng.below(4) {
                 0 => TypeInner::Pointer {
                     base: self.base(),
-                    space: *rng.pick(&SPACES),
+                    space: self.space(*rng.pick(&SPACES)),
                 },
                 1 if !self.held_abstract() => self.array(true),
                 2 if !self.held_abstract() => self.array(false),
                 _ => self.binding_array(),
             },
-            2 if self.held_abstract() => self.sized_binding_array(),
+            2 if self.named && self.held_abstract() => self.sized_binding_array(),
             2 if self.named && !self.is_abstract && rng.one_in(2) => self.sized_binding_array(),
             _ => self.own(),
         }
@@ -274,7 +288,7 @@ impl<'a> Maker<'a> {
             },
             5 => TypeInner::ValuePointer {
                 size: digits.of(&SOME_SIZES),
-                space: digits.of(&SPACES),
+                space: self.space(digits.of(&SPACES)),
                 scalar,
             },
             6 => image(Digits(self.place)),
@@ -312,9 +326,54 @@ fn image(mut digits: Digits) -> TypeInner {
     }
 }
 
-/// Whether a type carries this old number, as far as it carries one.
-pub fn carries(inner: &TypeInner, old: u32) -> bool {
-    let mark = |word: u32| word & !ABSTRACT_MARK == FIRST_MARK + old;
+/// The old numbers of types that have neither a name nor a mark of the whole number.
+pub type Leaves = HashMap<TypeInner, u32>;
+
+/// Those of a module.
+pub fn leaves(types: &UniqueArena<Type>) -> Leaves {
+    let bare = |(at, ty): (Handle<Type>, &Type)| {
+        let none = ty.name.is_none() && mark(&ty.inner).is_none();
+        none.then(|| (ty.inner.clone(), word(at)))
+    };
+    types.iter().filter_map(bare).collect()
+}
+
+/// The old number in a type's mark, if it has room for the whole of it.
+fn mark(inner: &TypeInner) -> Option<u32> {
+    let marked = |word: u32| (word & !ABSTRACT_MARK).checked_sub(FIRST_MARK);
+    match *inner {
+        TypeInner::Pointer {
+            space: AddressSpace::Storage { access },
+            ..
+        }
+        | TypeInner::ValuePointer {
+            space: AddressSpace::Storage { access },
+            ..
+        } => marked(access.bits()),
+        TypeInner::Array { stride, .. } => marked(stride),
+        TypeInner::Struct { span, .. } => marked(span),
+        TypeInner::BindingArray {
+            size: ArraySize::Constant(count),
+            ..
+        } => Some(count.get() - 1),
+        _ => None,
+    }
+}
+
+/// The old number of a type: by its name, by its mark, or as the only one that is such. What else it carries of a
+/// number must agree.
+pub fn number(ty: &Type, leaves: &Leaves) -> Option<u32> {
+    let named = ty.name.as_ref().map(|name| name.parse().ok());
+    let number =
+        named.unwrap_or_else(|| mark(&ty.inner).or_else(|| leaves.get(&ty.inner).copied()));
+    number.filter(|number| carries(&ty.inner, *number))
+}
+
+/// Whether what a type carries of an old number is of this one.
+fn carries(inner: &TypeInner, old: u32) -> bool {
+    if let Some(marked) = mark(inner) {
+        return marked == old;
+    }
     match *inner {
         TypeInner::Scalar(Scalar::U32) => true,
         TypeInner::Scalar(scalar)
@@ -323,12 +382,6 @@ pub fn carries(inner: &TypeInner, old: u32) -> bool {
         | TypeInner::Matrix { scalar, .. }
         | TypeInner::CooperativeMatrix { scalar, .. }
         | TypeInner::ValuePointer { scalar, .. } => scalar.width == width(old),
-        TypeInner::Array { stride, .. } => mark(stride),
-        TypeInner::Struct { span, .. } => mark(span),
-        TypeInner::BindingArray {
-            size: ArraySize::Constant(count),
-            ..
-        } => count.get() == 1 + old,
         _ => true,
     }
 }
@@ -350,7 +403,7 @@ pub fn has_an_end(flat: &Flat, mut ty: usize) -> bool {
 /// Whether the Rust would ask `is_abstract` of a type that is an array of itself: the crate's then has no
 /// end.
 pub fn endless(flat: &Flat) -> bool {
-    let mut constants = flat.areas[CONSTANTS].chunks(4);
+    let mut constants = flat.each(CONSTANTS);
     constants.any(|record| record[0] == 1 && !has_an_end(flat, record[1] as usize))
 }
 
@@ -358,7 +411,7 @@ pub fn endless(flat: &Flat) -> bool {
 /// made abstract, and there is nothing to find out. The areas must be such that the Rust can hold them.
 pub fn found_flags(flat: &Flat, seed: u64) -> Cow<'_, Flat> {
     let flagged = |record: &[u32]| record[1] & ABSTRACT != 0;
-    if !flat.areas[TYPES].chunks(5).any(flagged) {
+    if !flat.each(TYPES).any(flagged) {
         return Cow::Borrowed(flat);
     }
     let types = arena(flat, None, &mut Rng::new(seed));

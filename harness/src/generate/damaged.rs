@@ -151,7 +151,7 @@ impl Damager {
     }
 
     fn find_at(&mut self, area: usize, fits: impl Fn(usize, &[u32]) -> bool) -> Option<usize> {
-        let records = self.flat.areas[area].chunks(WIDTHS[area]).enumerate();
+        let records = self.flat.each(area).enumerate();
         let places: Vec<usize> = records
             .filter(|(place, record)| fits(*place, record))
             .map(|(place, _)| place)
@@ -293,7 +293,7 @@ impl Damager {
             area == EXPRESSIONS && matches!(record[0], GLOBAL_VARIABLE | CALL_RESULT)
         };
         let mut found = Vec::new();
-        for (place, record) in self.flat.areas[area].chunks(WIDTHS[area]).enumerate() {
+        for (place, record) in self.flat.each(area).enumerate() {
             for (at, slot) in slots(area, record).iter().enumerate() {
                 if !unread(record) && fits(record, at, *slot) {
                     found.push((place, at, *slot));
@@ -333,7 +333,7 @@ impl Damager {
     /// The records of an area that have a run, and where their start stands.
     fn run_records(&self, area: usize) -> (Vec<usize>, usize) {
         let (kind, start) = if area == TYPES { (3, 2) } else { (COMPOSE, 2) };
-        let records = self.flat.areas[area].chunks(WIDTHS[area]).enumerate();
+        let records = self.flat.each(area).enumerate();
         let places = records.filter(|(_, record)| record[0] == kind);
         (places.map(|(place, _)| place).collect(), start)
     }
@@ -519,14 +519,14 @@ impl Damager {
         let sizer = self.flat.record(TYPES, place)[3];
         let ty = self.not_older(TYPES, place);
         self.set(OVERRIDES, sizer as usize, 1, ty)?;
-        let mut sized = self.flat.areas[TYPES].chunks(5);
+        let mut sized = self.flat.each(TYPES);
         let first = sized.position(|record| record[0] == 2 && record[3] == sizer)?;
         Some(Refusal::new(7, TYPES, first))
     }
 
     fn operand_order(&mut self) -> Option<Refusal> {
         let mut found = Vec::new();
-        for (place, record) in self.flat.areas[EXPRESSIONS].chunks(11).enumerate() {
+        for (place, record) in self.flat.each(EXPRESSIONS).enumerate() {
             for (at, slot) in expression_slots(record).iter().enumerate() {
                 if let Slot::Need(EXPRESSIONS) | Slot::May(EXPRESSIONS) = *slot {
                     found.push((place, at));
@@ -548,7 +548,7 @@ impl Damager {
 
     /// The first expression up to `last` that names this constant or override.
     fn first_naming(&self, kind: u32, handle: u32, last: usize) -> Option<usize> {
-        let mut all = self.flat.areas[EXPRESSIONS].chunks(11).take(last + 1);
+        let mut all = self.flat.each(EXPRESSIONS).take(last + 1);
         all.position(|record| record[0] == kind && record[1] == handle)
     }
 
@@ -566,7 +566,7 @@ impl Damager {
     /// Which overrides size a type.
     fn sizers(&self) -> Vec<bool> {
         let mut sizers = vec![false; self.flat.records(OVERRIDES)];
-        for record in self.flat.areas[TYPES].chunks(5) {
+        for record in self.flat.each(TYPES) {
             if record[0] == 2 {
                 sizers[record[3] as usize] = true;
             }

@@ -3,7 +3,7 @@
 //! A module grows element by element, and each new one names only what is there already. That makes it
 //! well ordered. What need not be older is loosened afterwards.
 
-use super::{set_rooms, tag};
+use super::{set_rooms, tail};
 use crate::expect::deps;
 use crate::flat::*;
 use crate::rng::Rng;
@@ -153,10 +153,10 @@ impl Grower<'_> {
     }
 
     fn grow(&mut self, area: usize) {
-        let tag = tag(self.rng);
+        let tail = tail(self.rng);
         match area {
-            TYPES => self.grow_type(tag),
-            EXPRESSIONS => self.grow_expression(tag),
+            TYPES => self.grow_type(tail),
+            EXPRESSIONS => self.grow_expression(tail),
             _ => {
                 let ty = self.handle(TYPES);
                 let init = match area {
@@ -168,8 +168,8 @@ impl Grower<'_> {
                 };
                 let named = u32::from(self.rng.one_in(self.named));
                 match area {
-                    GLOBALS => self.flat.push(area, &[ty, init, tag]),
-                    _ => self.flat.push(area, &[named, ty, init, tag]),
+                    GLOBALS => self.flat.push_with(area, &[ty, init], tail),
+                    _ => self.flat.push_with(area, &[named, ty, init], tail),
                 }
             }
         }
@@ -221,7 +221,7 @@ impl Grower<'_> {
         (start as u32, count as u32)
     }
 
-    fn grow_type(&mut self, tag: u32) {
+    fn grow_type(&mut self, tail: Tail) {
         let any = self.flat.records(TYPES) > 0;
         let last = self.fill && self.left[TYPES] == 0;
         let sizers = any && self.flat.records(OVERRIDES) > 0;
@@ -242,10 +242,10 @@ impl Grower<'_> {
         let named = u32::from(self.rng.one_in(self.named));
         let is_abstract = if self.rng.one_in(5) { ABSTRACT } else { 0 };
         self.flat
-            .push(TYPES, &[kind, named + is_abstract, a, b, tag]);
+            .push_with(TYPES, &[kind, named + is_abstract, a, b], tail);
     }
 
-    fn grow_expression(&mut self, tag: u32) {
+    fn grow_expression(&mut self, tail: Tail) {
         let last = self.fill && self.left[EXPRESSIONS] == 0;
         let any = self.flat.records(EXPRESSIONS) > 0;
         let kind = match self.rng.below32(EXPRESSION_KINDS as usize) {
@@ -256,9 +256,8 @@ impl Grower<'_> {
             _ if any && self.style == Style::Chain => LOAD,
             kind => kind % 5,
         };
-        let mut record = [N; 11];
+        let mut record = [N; BODIES[EXPRESSIONS]];
         record[0] = kind;
-        record[10] = tag;
         match kind {
             IMAGE_SAMPLE => record[1 + LEVEL_FORM] = self.rng.below32(5),
             IMAGE_QUERY => record[1 + QUERY_FORM] = self.rng.below32(4),
@@ -276,7 +275,7 @@ impl Grower<'_> {
                 Slot::Form(_) | Slot::Count | Slot::Unused => record[1 + number],
             };
         }
-        self.flat.push(EXPRESSIONS, &record);
+        self.flat.push_with(EXPRESSIONS, &record, tail);
     }
 
     /// Whether an expression names a constant or an override that nothing names yet, once in `times`.
@@ -287,7 +286,7 @@ impl Grower<'_> {
     /// Whether there is something for each slot that such an expression needs; in a chain it must name
     /// an expression.
     fn possible(&self, kind: u32) -> bool {
-        let mut record = [N; 11];
+        let mut record = [N; BODIES[EXPRESSIONS]];
         record[0] = kind;
         let slots = expression_slots(&record);
         let links = |slot: &Slot| matches!(slot, Slot::Need(EXPRESSIONS) | Slot::Start);
@@ -312,14 +311,14 @@ impl Bounds {
     fn new(flat: &Flat) -> Self {
         let none = usize::MAX;
         let mut sizes = vec![none; flat.records(OVERRIDES)];
-        for (place, ty) in flat.areas[TYPES].chunks(5).enumerate() {
+        for (place, ty) in flat.each(TYPES).enumerate() {
             if ty[0] == 2 {
                 let first = &mut sizes[ty[3] as usize];
                 *first = place.min(*first);
             }
         }
         let mut names = std::array::from_fn(|area| vec![none; flat.records(area)]);
-        for (place, expression) in flat.areas[EXPRESSIONS].chunks(11).enumerate() {
+        for (place, expression) in flat.each(EXPRESSIONS).enumerate() {
             let area = match expression[0] {
                 CONSTANT => CONSTANTS,
                 OVERRIDE => OVERRIDES,
@@ -338,20 +337,20 @@ fn loosen(flat: &mut Flat, rng: &mut Rng) {
     // dep never falls, so the types with dep below an expression are the first ones.
     let below = |bound: usize| deps.partition_point(|dep| *dep < Some(bound as u32));
     let (types, expressions) = (flat.records(TYPES), flat.records(EXPRESSIONS));
-    for (place, expression) in flat.areas[EXPRESSIONS].chunks_mut(11).enumerate() {
+    for (place, expression) in flat.each_mut(EXPRESSIONS).enumerate() {
         if matches!(expression[0], 7 | 8 | 28..=30) && rng.one_in(2) {
             expression[1] = rng.below32(below(place));
         }
     }
     let bounds = Bounds::new(flat);
-    for (place, record) in flat.areas[CONSTANTS].chunks_mut(4).enumerate() {
+    for (place, record) in flat.each_mut(CONSTANTS).enumerate() {
         if rng.one_in(2) {
             let first = bounds.names[CONSTANTS][place];
             record[1] = rng.below32(below(first.min(N as usize)).min(types));
             record[2] = rng.below32(first.min(expressions));
         }
     }
-    for (place, record) in flat.areas[OVERRIDES].chunks_mut(4).enumerate() {
+    for (place, record) in flat.each_mut(OVERRIDES).enumerate() {
         if rng.one_in(2) {
             let first = bounds.names[OVERRIDES][place];
             let sized = bounds.sizes[place];
@@ -361,7 +360,7 @@ fn loosen(flat: &mut Flat, rng: &mut Rng) {
             }
         }
     }
-    for record in flat.areas[GLOBALS].chunks_mut(3) {
+    for record in flat.each_mut(GLOBALS) {
         record[0] = rng.below32(types);
         if expressions > 0 && rng.one_in(2) {
             record[1] = rng.below32(expressions);
@@ -385,7 +384,7 @@ fn shuffle(flat: &mut Flat, area: usize, rng: &mut Rng) {
         words.extend_from_slice(flat.record(area, *from));
     }
     flat.areas[area] = words;
-    for ty in flat.areas[TYPES].chunks_mut(5) {
+    for ty in flat.each_mut(TYPES) {
         if area == OVERRIDES && ty[0] == 2 {
             ty[3] = new[ty[3] as usize];
         }
@@ -395,7 +394,7 @@ fn shuffle(flat: &mut Flat, area: usize, rng: &mut Rng) {
     } else {
         OVERRIDE
     };
-    for expression in flat.areas[EXPRESSIONS].chunks_mut(11) {
+    for expression in flat.each_mut(EXPRESSIONS) {
         if area != GLOBALS && expression[0] == kind {
             expression[1] = new[expression[1] as usize];
         }

@@ -2,7 +2,7 @@
 
 use super::good::{good, Size, LEAST_LARGE};
 use super::whole::{half, rootless, whole, ALL, CHAINS, FULL};
-use super::{set_rooms, tag, Foretold};
+use super::{set_rooms, tail, Foretold};
 use crate::flat::*;
 use crate::rng::Rng;
 
@@ -230,8 +230,8 @@ struct Maker<'a> {
 
 impl Maker<'_> {
     fn push(&mut self, area: usize, words: &[u32]) {
-        self.flat.areas[area].extend_from_slice(words);
-        self.flat.areas[area].push(tag(self.rng));
+        let tail = tail(self.rng);
+        self.flat.push_with(area, words, tail);
     }
 
     fn leaf(&mut self) {
@@ -266,7 +266,7 @@ impl Maker<'_> {
     }
 
     fn expression(&mut self, kind: u32, slots: &[u32]) {
-        let mut words = [N; 10];
+        let mut words = [N; BODIES[EXPRESSIONS]];
         words[0] = kind;
         words[1..=slots.len()].copy_from_slice(slots);
         self.push(EXPRESSIONS, &words);

@@ -194,17 +194,16 @@ fn put(flat: &mut Flat, area: usize, place: usize, choice: &Choice) {
         return;
     }
     let mut record = choice.words.clone();
-    if let Some(start) = record.iter().position(|word| *word == START) {
+    if let Some(start) = record.iter().position(|word| *word == OPEN) {
         let pool = &mut flat.areas[pool_of(area)];
         record[start] = pool.len() as u32;
         pool.extend(&choice.run);
     }
-    record.push((10 * area + place) as u32);
-    flat.push(area, &record);
+    flat.push_with(area, &record, [0, 0, (10 * area + place) as u32]);
 }
 
 /// Stands for the start of a run until the pool's length is known.
-const START: u32 = N - 1;
+const OPEN: u32 = N - 1;
 
 fn all(count: usize) -> std::ops::Range<u32> {
     0..count as u32
@@ -233,12 +232,12 @@ fn types(shape: Shape, place: usize) -> Vec<Choice> {
                 list.push(choice(&[2, flags, base, sizer], &[]));
             }
         }
-        list.push(choice(&[3, flags, START, 0], &[]));
+        list.push(choice(&[3, flags, OPEN, 0], &[]));
     }
     for member in named() {
-        list.push(choice(&[3, 0, START, 1], &[member]));
+        list.push(choice(&[3, 0, OPEN, 1], &[member]));
         for second in named().take(2) {
-            list.push(choice(&[3, 0, START, 2], &[member, second]));
+            list.push(choice(&[3, 0, OPEN, 2], &[member, second]));
         }
     }
     list
@@ -283,7 +282,7 @@ fn expressions(shape: Shape, place: usize) -> Vec<Choice> {
     let [types, constants, overrides, ..] = shape.counts;
     let named = || shape.named(EXPRESSIONS, place);
     let record = |kind: u32, slots: &[u32]| {
-        let mut words = vec![N; 10];
+        let mut words = vec![N; BODIES[EXPRESSIONS]];
         words[0] = kind;
         words[1..=slots.len()].copy_from_slice(slots);
         words
@@ -300,9 +299,9 @@ fn expressions(shape: Shape, place: usize) -> Vec<Choice> {
     }
     for ty in all(types) {
         add(7, &[ty], &[]);
-        add(COMPOSE, &[ty, START, 0], &[]);
+        add(COMPOSE, &[ty, OPEN, 0], &[]);
         for component in named() {
-            add(COMPOSE, &[ty, START, 1], &[component]);
+            add(COMPOSE, &[ty, OPEN, 1], &[component]);
         }
     }
     for operand in named() {

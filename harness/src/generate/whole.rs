@@ -67,7 +67,7 @@ pub fn half(rng: &mut Rng, records: usize) -> Flat {
             }
         }
     }
-    for mention in old.areas[MENTIONS].chunks(2) {
+    for mention in old.each(MENTIONS) {
         flat.push(MENTIONS, &[mention[0], 2 * mention[1]]);
     }
     set_rooms(&mut flat, rng);
@@ -166,7 +166,7 @@ fn name_constants(grower: &mut Grower) {
     for constant in std::mem::take(&mut grower.loose[CONSTANTS]) {
         grower.flat.record_mut(CONSTANTS, constant as usize)[0] = 1;
     }
-    for ty in grower.flat.areas[TYPES].chunks_mut(5) {
+    for ty in grower.flat.each_mut(TYPES) {
         ty[1] &= !ABSTRACT;
     }
 }

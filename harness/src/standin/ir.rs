@@ -106,6 +106,15 @@ impl StorageAccess {
     pub const LOAD: Self = StorageAccess(1);
     pub const STORE: Self = StorageAccess(2);
     pub const ATOMIC: Self = StorageAccess(4);
+
+    /// Any bits, also those without a name.
+    pub const fn from_bits_retain(bits: u32) -> Self {
+        StorageAccess(bits)
+    }
+
+    pub const fn bits(self) -> u32 {
+        self.0
+    }
 }
 
 #[derive(Clone, Copy, Debug, PartialEq, Eq, Hash)]
@@ -141,9 +150,11 @@ pub enum ImageClass {
 #[derive(Clone, Debug, PartialEq, Eq, Hash)]
 pub enum Binding {}
 
-/// How a host binds a global; here it never does.
-#[derive(Clone, Debug, PartialEq, Eq)]
-pub enum ResourceBinding {}
+#[derive(Clone, Copy, Debug, PartialEq, Eq)]
+pub struct ResourceBinding {
+    pub group: u32,
+    pub binding: u32,
+}
 
 #[derive(Clone, Copy, Debug, Default, PartialEq, Eq)]
 pub struct MemoryDecorations(pub u8);

@@ -1,4 +1,4 @@
-//! A place in a source text. Here its two words carry an element's marks through a pass.
+//! A place in a source text.
 
 use std::ops::Range;
 
