@@ -30,11 +30,26 @@ fn name_of(named: bool, old: usize) -> Option<String> {
     named.then(|| old.to_string())
 }
 
-/// A binding that carries an old number.
-fn binding_of(old: u32) -> ResourceBinding {
-    ResourceBinding {
-        group: old,
-        binding: old,
+/// An override. One without a name has an id, which carries its number.
+fn override_from(record: &[u32], old: usize, id: bool) -> Override {
+    let named = record[0] == 1;
+    Override {
+        name: name_of(named, old),
+        id: (id || !named).then_some(old as u16),
+        ty: handle(record[1]),
+        init: option(record[2]),
+    }
+}
+
+/// A global with a name or with a binding, which carries its number.
+fn global_from(record: &[u32], old: usize, named: bool) -> GlobalVariable {
+    let binding = ResourceBinding {
+        group: old as u32,
+        binding: 0,
+    };
+    GlobalVariable {
+        binding: (!named).then_some(binding),
+        ..global(name_of(named, old), record[0], option(record[1]))
     }
 }
 
@@ -73,22 +88,12 @@ pub fn build(flat: &Flat, keep: bool, chosen: &[Road], rng: &mut Rng) -> Built {
         module.constants.append(constant, span(CONSTANTS, old));
     }
     for (old, record) in flat.each(OVERRIDES).enumerate() {
-        let item = Override {
-            name: name_of(record[0] == 1, old),
-            id: (rng.one_in(2) || record[0] == 0).then_some(old as u16),
-            ty: handle(record[1]),
-            init: option(record[2]),
-        };
+        let item = override_from(record, old, rng.one_in(2));
         module.overrides.append(item, span(OVERRIDES, old));
     }
     for (old, record) in flat.each(GLOBALS).enumerate() {
-        let name = name_of(rng.one_in(2), old);
-        let binding = name.is_none().then_some(binding_of(old as u32));
-        let global = GlobalVariable {
-            binding,
-            ..global(name, record[0], option(record[1]))
-        };
-        module.global_variables.append(global, span(GLOBALS, old));
+        let item = global_from(record, old, rng.one_in(2));
+        module.global_variables.append(item, span(GLOBALS, old));
     }
     for place in 0..flat.records(EXPRESSIONS) {
         let expression = expression_from(flat, place);
@@ -306,10 +311,10 @@ fn expression_from(flat: &Flat, place: usize) -> Expression {
 pub fn read(flat: &Flat, built: &Built) -> Result<After, String> {
     let module = &built.module;
     let types = old_types(built)?;
-    let mut areas = words(module, |at| {
+    let mut left = words(module, |at| {
         is_abstract(flat, module, at, types[at.index()])
     });
-    let mut survivors = Survivors::new(flat, &areas);
+    let mut survivors = Survivors::new(flat, &left);
     for (new, old) in types.into_iter().enumerate() {
         survivors.note(TYPES, old, new as u32)?;
     }
@@ -320,13 +325,13 @@ pub fn read(flat: &Flat, built: &Built) -> Result<After, String> {
     let handles = roads::read(module, &built.laid, new_stage)?;
     for (mention, new) in flat.each(MENTIONS).zip(handles) {
         survivors.note(mention[0] as usize, mention[1], new)?;
-        areas[MENTIONS].extend([mention[0], new]);
+        left.push(MENTIONS, &[mention[0], new]);
     }
-    survivors.follow(&areas)?;
+    survivors.follow(&left)?;
     let mut after = After {
-        counts: std::array::from_fn(|area| (areas[area].len() / WIDTHS[area]) as u32),
-        maps: survivors.tagged(&mut areas)?,
-        areas,
+        counts: std::array::from_fn(|area| left.records(area) as u32),
+        maps: survivors.tagged(&mut left)?,
+        areas: left.areas,
     };
     read_comments(module, &after)?;
     for area in 0..7 {
@@ -370,11 +375,8 @@ fn own_numbers(module: &Module, survivors: &mut Survivors) -> Result<(), String>
     }
     for (at, item) in module.global_variables.iter() {
         note(GLOBALS, at.index(), named_number(&item.name))?;
-        note(
-            GLOBALS,
-            at.index(),
-            item.binding.map(|binding| binding.group),
-        )?;
+        let bound = item.binding.map(|binding| binding.group);
+        note(GLOBALS, at.index(), bound)?;
     }
     for (at, item) in module.global_expressions.iter() {
         note(EXPRESSIONS, at.index(), expression_number(item))?;

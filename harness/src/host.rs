@@ -69,21 +69,20 @@ fn starts(spans: impl Iterator<Item = Span>) -> Vec<u32> {
 }
 
 /// The words of areas 0 to 6 without tags.
-pub fn untagged(module: &Module) -> [Vec<u32>; 8] {
+pub fn untagged(module: &Module) -> Flat {
     let types = &module.types;
     words(module, |at| types[at].inner.is_abstract(types))
 }
 
 /// The words of areas 0 to 6 with these numbers as tags.
-pub fn tagged(module: &Module, numbers: &Numbers) -> [Vec<u32>; 8] {
-    let mut areas = untagged(module);
+pub fn tagged(module: &Module, numbers: &Numbers) -> Flat {
+    let mut flat = untagged(module);
     for (area, numbers) in numbers.iter().enumerate() {
-        let records = areas[area].chunks_exact_mut(WIDTHS[area]);
-        for (record, number) in records.zip(numbers) {
+        for (record, number) in flat.each_mut(area).zip(numbers) {
             record[BODIES[area] + TAG] = *number;
         }
     }
-    areas
+    flat
 }
 
 /// The module with what its functions do not use dropped from their own expressions, by the crate; its areas are as

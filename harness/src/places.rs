@@ -180,7 +180,7 @@ fn put(places: &[Place<'_>], words: &mut [u32], pool: &mut Vec<u32>) {
 
 /// The words of areas 0 to 6, with the spans that the elements have; every tag is N. `is_abstract` tells which types
 /// are.
-pub fn words(module: &Module, is_abstract: impl Fn(Handle<Type>) -> bool) -> [Vec<u32>; 8] {
+pub fn words(module: &Module, is_abstract: impl Fn(Handle<Type>) -> bool) -> Flat {
     let mut flat = Flat::default();
     for (at, ty) in module.types.iter() {
         let body = type_words(ty, is_abstract(at), &mut flat.areas[MEMBERS]);
@@ -203,7 +203,7 @@ pub fn words(module: &Module, is_abstract: impl Fn(Handle<Type>) -> bool) -> [Ve
         let tail = tail(module.global_expressions.get_span(at), N);
         flat.push_with(EXPRESSIONS, &body, tail);
     }
-    flat.areas
+    flat
 }
 
 /// Kind, flags, a and b; the members go to the pool.

@@ -113,10 +113,7 @@ impl Shader {
 
     /// The words, with the mentions of the functions that count.
     fn words(&mut self, reached: &[bool]) -> Flat {
-        let mut flat = Flat {
-            areas: host::tagged(&self.module, &host::numbers(&self.numbered)),
-            rooms: [0; 5],
-        };
+        let mut flat = host::tagged(&self.module, &host::numbers(&self.numbered));
         flat.areas[MENTIONS] = host::mentions(&mut self.settled, reached);
         flat.fit_rooms();
         flat
@@ -129,7 +126,7 @@ impl Shader {
         same_module("naga's pass over other spans", &module, &numbered)?;
         let valid = valid(&module);
         let numbers = host::numbers(&numbered);
-        let mut areas = host::tagged(&module, &numbers);
+        let mut areas = host::tagged(&module, &numbers).areas;
         let maps: [Vec<u32>; 5] = std::array::from_fn(|area| {
             let mut map = vec![N; flat.records(area)];
             for (new, old) in numbers[area].iter().enumerate() {

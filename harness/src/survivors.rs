@@ -16,13 +16,21 @@ pub struct Survivors<'a> {
     open: Vec<(usize, usize)>,
 }
 
+/// What a record names. A `GlobalVariable` is refused with 5, but the Rust follows it.
+fn references(flat: &Flat, area: usize, place: usize, list: &mut Vec<(usize, u32)>) {
+    handles(flat, area, place, |to, handle| list.push((to, handle)));
+    if let (EXPRESSIONS, [GLOBAL_VARIABLE, global, ..]) = (area, flat.record(area, place)) {
+        list.push((GLOBALS, *global));
+    }
+}
+
 impl<'a> Survivors<'a> {
-    /// Of these areas after a pass none is known.
-    pub fn new(flat: &'a Flat, areas: &[Vec<u32>; 8]) -> Self {
+    /// None is known of what a pass left.
+    pub fn new(flat: &'a Flat, left: &Flat) -> Self {
         Survivors {
             flat,
             maps: std::array::from_fn(|area| vec![N; flat.records(area)]),
-            olds: std::array::from_fn(|area| vec![N; areas[area].len() / WIDTHS[area]]),
+            olds: std::array::from_fn(|area| vec![N; left.records(area)]),
             open: Vec::new(),
         }
     }
@@ -51,64 +59,27 @@ impl<'a> Survivors<'a> {
         }
     }
 
-    /// Follows the references of what is known.
-    pub fn follow(&mut self, areas: &[Vec<u32>; 8]) -> Result<(), String> {
+    /// Follows the references of what is known, before the pass and in what it left.
+    pub fn follow(&mut self, left: &Flat) -> Result<(), String> {
+        let (mut before, mut after) = (Vec::new(), Vec::new());
         while let Some((area, old)) = self.open.pop() {
-            let at = self.maps[area][old] as usize * WIDTHS[area];
-            self.follow_record(areas, area, old, &areas[area][at..at + WIDTHS[area]])?;
+            references(self.flat, area, old, &mut before);
+            references(left, area, self.maps[area][old] as usize, &mut after);
+            let areas = before.iter().map(|pair| pair.0);
+            if areas.ne(after.iter().map(|pair| pair.0)) {
+                return Err(format!("{} {old}: of another shape", AREAS[area]));
+            }
+            for ((to, old), (_, new)) in before.drain(..).zip(after.drain(..)) {
+                self.note(to, old, new)?;
+            }
         }
         Ok(())
     }
 
-    fn follow_record(
-        &mut self,
-        areas: &[Vec<u32>; 8],
-        area: usize,
-        old: usize,
-        new: &[u32],
-    ) -> Result<(), String> {
-        let flat = self.flat;
-        let record = flat.record(area, old);
-        let slots = slots(area, record);
-        let other = || format!("{} {old}: of another shape", AREAS[area]);
-        if *slots != *crate::flat::slots(area, new) {
-            return Err(other());
-        }
-        for (number, slot) in slots.iter().enumerate() {
-            let at = FIRST_SLOT[area] + number;
-            match *slot {
-                Slot::Need(to) | Slot::May(to) if record[at] != N => {
-                    self.note(to, record[at], new[at])?;
-                }
-                Slot::Start => {
-                    let run = |record: &[u32]| {
-                        let start = record[at] as usize;
-                        start..start + record[at + 1] as usize
-                    };
-                    let pool = pool_of(area);
-                    let (before, after) = (&flat.areas[pool][run(record)], &areas[pool][run(new)]);
-                    if before.len() != after.len() {
-                        return Err(other());
-                    }
-                    for (old, new) in before.iter().zip(after) {
-                        self.note(area, *old, *new)?;
-                    }
-                }
-                _ => {}
-            }
-        }
-        // Refused with 5, and the Rust follows it.
-        match (area, record[0]) {
-            (EXPRESSIONS, GLOBAL_VARIABLE) => self.note(GLOBALS, record[1], new[1]),
-            _ => Ok(()),
-        }
-    }
-
     /// The maps of the pass. Each element that was left must be known; its tag is written.
-    pub fn tagged(self, areas: &mut [Vec<u32>; 8]) -> Result<[Vec<u32>; 5], String> {
+    pub fn tagged(self, left: &mut Flat) -> Result<[Vec<u32>; 5], String> {
         for (area, olds) in self.olds.iter().enumerate() {
-            let records = areas[area].chunks_exact_mut(WIDTHS[area]);
-            for (new, (record, old)) in records.zip(olds).enumerate() {
+            for (new, (record, old)) in left.each_mut(area).zip(olds).enumerate() {
                 if *old == N {
                     let name = AREAS[area];
                     return Err(format!("{name} at {new}: nothing tells its old number"));
