@@ -621,7 +621,7 @@ fn a_refusal_about_a_record_tells_its_span() {
 }
 
 #[test]
-fn a_refusal_about_no_record_or_a_mention_tells_no_span() {
+fn no_span_without_a_record_that_has_one() {
     for area in Area::ALL.into_iter().filter(|area| area.width() > 1) {
         let mut longer = good();
         longer.area_mut(area).push(0); // 1
@@ -640,4 +640,8 @@ fn a_refusal_about_no_record_or_a_mention_tells_no_span() {
     mention.mentions[0] = 9;
     assert_eq!(told(&mention, &long_maps(&mention)), None);
     assert_eq!(mention.span(Area::Mentions, 0), None);
+    for area in Area::ALL {
+        let past = good().count(area) as u32;
+        assert_eq!([past, N].map(|record| good().span(area, record)), [None; 2]);
+    }
 }
