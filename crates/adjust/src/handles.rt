@@ -3,7 +3,7 @@ ghost use Rattle.std.specs.Prelude.{◌≡◌};
 ghost use Rattle.definitions.specs.Outcome.{map_of};
 ghost use Rattle.definitions.specs.MapEntries.{lookup};
 ghost use Rattle.arena.specs.Elements.{element_of};
-ghost use Rattle.arena.specs.Lent.{given, maps};
+ghost use Rattle.arena.specs.Lent.{maps_of};
 ghost use Rattle.slots.specs.Codes.{arena_of};
 ghost use Rattle.adjust.specs.Rewrite.{element_by};
 
@@ -12,35 +12,35 @@ use slots::Arena;
 
 // A type's new handle, or N.
 pub fn type_after(type_map: &[u32], h: TypeHandle) -> TypeHandle
-    ensures { result.0 ≡ lookup (given type_map) h.0 }
+    ensures { result.0 ≡ lookup type_map.now h.0 }
 {
     TypeHandle(handle_map::lookup(type_map, h.0))
 }
 
 // A constant's.
 pub fn constant_after(constant_map: &[u32], h: ConstantHandle) -> ConstantHandle
-    ensures { result.0 ≡ lookup (given constant_map) h.0 }
+    ensures { result.0 ≡ lookup constant_map.now h.0 }
 {
     ConstantHandle(handle_map::lookup(constant_map, h.0))
 }
 
 // An override's.
 pub fn override_after(override_map: &[u32], h: OverrideHandle) -> OverrideHandle
-    ensures { result.0 ≡ lookup (given override_map) h.0 }
+    ensures { result.0 ≡ lookup override_map.now h.0 }
 {
     OverrideHandle(handle_map::lookup(override_map, h.0))
 }
 
 // A global's.
 pub fn global_after(global_map: &[u32], h: GlobalHandle) -> GlobalHandle
-    ensures { result.0 ≡ lookup (given global_map) h.0 }
+    ensures { result.0 ≡ lookup global_map.now h.0 }
 {
     GlobalHandle(handle_map::lookup(global_map, h.0))
 }
 
 // An expression's.
 pub fn expression_after(expression_map: &[u32], h: ExpressionHandle) -> ExpressionHandle
-    ensures { result.0 ≡ lookup (given expression_map) h.0 }
+    ensures { result.0 ≡ lookup expression_map.now h.0 }
 {
     ExpressionHandle(handle_map::lookup(expression_map, h.0))
 }
@@ -55,7 +55,7 @@ pub fn element_after<'a>(
     expression_map: &'a [u32],
 ) -> Element
     ensures { element_of result ≡
-        element_by (maps given type_map constant_map override_map global_map expression_map) (element_of x) }
+        element_by (maps_of type_map.now constant_map.now override_map.now global_map.now expression_map.now) (element_of x) }
 {
     match x {
         Element::Type(h) => Element::Type(type_after(type_map, h)),
@@ -77,7 +77,7 @@ pub fn word_after<'a>(
     expression_map: &'a [u32],
 ) -> u32
     ensures { result ≡
-        lookup (map_of (maps given type_map constant_map override_map global_map expression_map)
+        lookup (map_of (maps_of type_map.now constant_map.now override_map.now global_map.now expression_map.now)
         (arena_of arena)) w }
 {
     element_after(

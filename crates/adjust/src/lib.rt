@@ -1,11 +1,13 @@
 // Rewriting by the maps: records, pools and mentions in place, what was kept closed up, then N to the old end.
+#![tactic(auto)]
+
 ghost use Rattle.std.specs.Prelude.{◌≡◌, ◌∷◌, map, ◌+◌, ◌≤◌, ◌<◌, length, take, drop, replicate};
 ghost use Rattle.std.proofs.lemmas.List.Edits.{sets};
 ghost use Rattle.definitions.specs.Areas.{N, numbered, width};
 ghost use Rattle.definitions.specs.Slots.{body, tail, slots, carried};
 ghost use Rattle.definitions.specs.Outcome.{map_of};
 ghost use Rattle.definitions.specs.MapEntries.{lookup};
-ghost use Rattle.arena.specs.Lent.{given, left, maps};
+ghost use Rattle.arena.specs.Lent.{maps_of};
 ghost use Rattle.slots.specs.Codes.{arena_of, slot_of, unpacked, words_from};
 ghost use Rattle.adjust.specs.Rewrite.{kept_by, adjusted_by, init_by, typed_by, record_from};
 ghost use Rattle.adjust.specs.Rewrite.{Empty, freed_from, arena_by, pool_by, runs_by, mentions_by};
@@ -28,7 +30,7 @@ fn map_of<'a>(
     expression_map: &'a [u32],
 ) -> &'a [u32]
     ensures { result.now ≡
-        map_of (maps given type_map constant_map override_map global_map expression_map) (arena_of arena) }
+        map_of (maps_of type_map.now constant_map.now override_map.now global_map.now expression_map.now) (arena_of arena) }
 {
     match arena {
         Arena::Types => type_map,
@@ -51,7 +53,7 @@ fn adjust_slot<'a>(
     expression_map: &'a [u32],
 ) -> u32
     ensures { result ≡
-        adjusted_by (maps given type_map constant_map override_map global_map expression_map)
+        adjusted_by (maps_of type_map.now constant_map.now override_map.now global_map.now expression_map.now)
         start (slot_of slot) w }
 {
     match slot {
@@ -98,10 +100,10 @@ fn adjust_record<'a>(
     expression_map: &'a [u32],
 )
     requires { (to ≤ from) × (from + n ≤ length ws.old) }
-    ensures { left ws ≡
-        sets (given ws) to
-        (record_from (maps given type_map constant_map override_map global_map expression_map) start
-        (words_from (given ws) from) 0 (unpacked shape n)) }
+    ensures { ws.new ≡
+        sets ws.old to
+        (record_from (maps_of type_map.now constant_map.now override_map.now global_map.now expression_map.now) start
+        (words_from ws.old from) 0 (unpacked shape n)) }
 {
     let mut rest = shape;
     let mut k = 0;
@@ -123,7 +125,7 @@ fn adjust_record<'a>(
 
 // An init adjusted. Unless it must be there it may be N.
 fn adjust_init(must: bool, init: ExpressionHandle, expression_map: &[u32]) -> ExpressionHandle
-    ensures { result.0 ≡ init_by must (given expression_map) init.0 }
+    ensures { result.0 ≡ init_by must expression_map.now init.0 }
 {
     if init.0 == N {
         if !must {
@@ -143,10 +145,10 @@ fn adjust_typed(
     expression_map: &[u32],
 )
     requires { (to ≤ from) × (from + 1 < length ws.old) }
-    ensures { left ws ≡
-        sets (given ws) to
-        (typed_by must (given type_map) (given expression_map)
-        (words_from (given ws) from) 0) }
+    ensures { ws.new ≡
+        sets ws.old to
+        (typed_by must type_map.now expression_map.now
+        (words_from ws.old from) 0) }
 {
     let ty = TypeHandle(ws[from + Global::TYPE]);
     let init = ExpressionHandle(ws[from + Global::INIT]);
@@ -164,11 +166,11 @@ fn adjust_named(
     expression_map: &[u32],
 )
     requires { (to ≤ from) × (from + 2 < length ws.old) }
-    ensures { left ws ≡
-        sets (given ws) to
-        (words_from (given ws) from 0
-        ∷ typed_by must (given type_map) (given expression_map)
-        (words_from (given ws) from) 1) }
+    ensures { ws.new ≡
+        sets ws.old to
+        (words_from ws.old from 0
+        ∷ typed_by must type_map.now expression_map.now
+        (words_from ws.old from) 1) }
 {
     let flag = ws[from + Constant::NAMED];
     ws[to + Constant::NAMED] = flag;
@@ -198,10 +200,10 @@ fn adjust_body<'a>(
     expression_map: &'a [u32],
 )
     requires { (to ≤ from) × (from + n ≤ length ws.old) × (n + length tail ≡ width (numbered area)) }
-    ensures { left ws ≡
-        sets (given ws) to
-        (record_from (maps given type_map constant_map override_map global_map expression_map) start
-        (words_from (given ws) from) 0 (body (numbered area) (words_from (given ws) from))) }
+    ensures { ws.new ≡
+        sets ws.old to
+        (record_from (maps_of type_map.now constant_map.now override_map.now global_map.now expression_map.now) start
+        (words_from ws.old from) 0 (body (numbered area) (words_from ws.old from))) }
 {
     match area {
         CONSTANTS => adjust_named(ws, from, to, true, type_map, expression_map),
@@ -229,7 +231,7 @@ fn adjust_body<'a>(
 // A record's tail, which stays: that at `from` is written at `to`.
 fn carry_tail(ws: &mut [u32], from: usize, to: usize)
     requires { (to ≤ from) × (from + length tail ≤ length ws.old) }
-    ensures { left ws ≡ sets (given ws) to (carried (words_from (given ws) from) 0 tail) }
+    ensures { ws.new ≡ sets ws.old to (carried (words_from ws.old from) 0 tail) }
 {
     let start = ws[from + SPAN_START];
     let length = ws[from + SPAN_LENGTH];
@@ -254,10 +256,10 @@ fn adjust_kept<'a>(
     expression_map: &'a [u32],
 )
     requires { (to ≤ from) × (from + wide ≤ length ws.old) × (wide ≡ width (numbered area)) }
-    ensures { left ws ≡
-        sets (given ws) to
-        (record_from (maps given type_map constant_map override_map global_map expression_map) start
-        (words_from (given ws) from) 0 (slots (numbered area) (words_from (given ws) from))) }
+    ensures { ws.new ≡
+        sets ws.old to
+        (record_from (maps_of type_map.now constant_map.now override_map.now global_map.now expression_map.now) start
+        (words_from ws.old from) 0 (slots (numbered area) (words_from ws.old from))) }
 {
     let n = wide - TAIL;
     adjust_body(
@@ -278,7 +280,7 @@ fn adjust_kept<'a>(
 
 // N in every word.
 fn pad(ws: &mut [u32])
-    ensures { left ws ≡ replicate (length (given ws)) N }
+    ensures { ws.new ≡ replicate (length ws.old) N }
 {
     let mut i = 0;
     while i < ws.len() {
@@ -290,7 +292,7 @@ fn pad(ws: &mut [u32])
 // Words written at a place.
 fn write(ws: &mut [u32], at: usize, new: &[u32])
     requires { at + length new.now ≤ length ws.old }
-    ensures { left ws ≡ sets (given ws) at (given new) }
+    ensures { ws.new ≡ sets ws.old at new.now }
 {
     let mut k = 0;
     while k < new.len() {
@@ -302,7 +304,7 @@ fn write(ws: &mut [u32], at: usize, new: &[u32])
 // An empty record again and again from a place on, as long as it fits, then N to the end.
 fn free(ws: &mut [u32], from: usize, empty: &[u32])
     requires { (from ≤ length ws.old) × Empty empty.now }
-    ensures { left ws ≡ freed_from from (given ws) }
+    ensures { ws.new ≡ freed_from from ws.old }
 {
     let mut at = from;
     while empty.len() <= ws.len() - at {
@@ -315,7 +317,7 @@ fn free(ws: &mut [u32], from: usize, empty: &[u32])
 // The records of an area from a place on are freed: each is the area's empty record.
 fn free_records(area: u32, ws: &mut [u32], from: usize)
     requires { from ≤ length ws.old }
-    ensures { left ws ≡ freed_from from (given ws) }
+    ensures { ws.new ≡ freed_from from ws.old }
 {
     match area {
         TYPES => free(ws, from, &Type::empty()),
@@ -328,7 +330,7 @@ fn free_records(area: u32, ws: &mut [u32], from: usize)
 
 // Whether the map keeps record h: past the map's end nothing is kept.
 fn kept_at(own: &[u32], h: usize) -> bool
-    ensures { result ≡ kept_by (given own) h }
+    ensures { result ≡ kept_by own.now h }
 {
     if h < own.len() {
         return own[h] != N;
@@ -347,9 +349,9 @@ pub fn adjust_arena<'a>(
     global_map: &'a [u32],
     expression_map: &'a [u32],
 )
-    ensures { left ws ≡
-        arena_by (maps given type_map constant_map override_map global_map expression_map)
-        (numbered area) (given ws) }
+    ensures { ws.new ≡
+        arena_by (maps_of type_map.now constant_map.now override_map.now global_map.now expression_map.now)
+        (numbered area) ws.old }
 {
     let width = slots::arena_width(area);
     let own = map_of(
@@ -392,7 +394,7 @@ pub fn adjust_arena<'a>(
 
 // A word of a run adjusted: a type's members are types, an expression's components expressions.
 fn run_word(area: u32, w: u32, own: &[u32]) -> u32
-    ensures { result ≡ lookup (given own) w }
+    ensures { result ≡ lookup own.now w }
 {
     match area {
         TYPES => handles::type_after(own, TypeHandle(w)).0,
@@ -403,8 +405,8 @@ fn run_word(area: u32, w: u32, own: &[u32]) -> u32
 // The n words of the area's pool at `from` are written, adjusted, at `to`, which is no later.
 fn adjust_run(area: u32, pool: &mut [u32], from: usize, to: usize, n: usize, own: &[u32])
     requires { (to ≤ from) × (from + n ≤ length pool.old) }
-    ensures { left pool ≡
-        sets (given pool) to (map (lookup (given own)) (take n (drop from (given pool)))) }
+    ensures { pool.new ≡
+        sets pool.old to (map (lookup own.now) (take n (drop from pool.old))) }
 {
     let mut k = 0;
     while k < n {
@@ -416,8 +418,8 @@ fn adjust_run(area: u32, pool: &mut [u32], from: usize, to: usize, n: usize, own
 // A pool rewritten: the runs of its arena's kept records adjusted and closed up, then N.
 // Answers how many words were kept. The arena's records still stand as they were.
 pub fn adjust_pool(area: u32, ws: &[u32], pool: &mut [u32], own: &[u32]) -> usize
-    ensures { (left pool ≡ pool_by (given own) (numbered area) (given ws) (given pool))
-        × (result ≡ length (runs_by (given own) (numbered area) (given ws) (given pool))) }
+    ensures { (pool.new ≡ pool_by own.now (numbered area) ws.now pool.old)
+        × (result ≡ length (runs_by own.now (numbered area) ws.now pool.old)) }
 {
     let width = slots::arena_width(area);
     let n = ws.len() / width;
@@ -451,9 +453,9 @@ pub fn adjust_mentions<'a>(
     global_map: &'a [u32],
     expression_map: &'a [u32],
 )
-    ensures { left mentions ≡
-        mentions_by (maps given type_map constant_map override_map global_map expression_map)
-        (given mentions) }
+    ensures { mentions.new ≡
+        mentions_by (maps_of type_map.now constant_map.now override_map.now global_map.now expression_map.now)
+        mentions.old }
 {
     let mut at = 0;
     while Mention::WIDTH <= mentions.len() - at {

@@ -1,14 +1,14 @@
 -- What a contract says of lent words: as they were given, and as they are left.
 -- Assumes nothing.
 use Rattle.std.specs.Prelude.{List, [], ℕ, get_or}
-use Rattle.std.specs.Borrow.{Bor}
+use Rattle.std.specs.Borrow.{Bor, MutBor}
 use denote.Triple.Both.{Both}
 use Rattle.definitions.specs.Areas.{Words, Areas, areas_of}
 use Rattle.definitions.specs.Outcome.{Maps}
 
--- a reference that an `ensures` speaks of
+-- a `&mut` that an `ensures` speaks of
 abbrev pub Lent : Type 0 → Type 0
-Lent A = Both (Bor A) (Bor A)
+Lent A = Both (MutBor A) (MutBor A)
 
 -- what it held when it was given
 abbrev pub given : {A : Type 0} → Lent A → A
@@ -22,7 +22,7 @@ left x = x.exit.now
 abbrev pub maps_of : Words → Words → Words → Words → Words → Maps
 maps_of t c o g e = record { types = t; constants = c; overrides = o; globals = g; expressions = e }
 
--- the eight areas at one moment: `areas now ..` in a `requires`, `areas given ..` and `areas left ..` in an `ensures`
+-- the eight areas at one moment: `areas given ..` and `areas left ..` in an `ensures`
 abbrev pub areas : {X : Type 0} → (X → Words) → X → X → X → X → X → X → X → X → Areas
 areas at t c o g e m k q = areas_of (at t) (at c) (at o) (at g) (at e) (at m) (at k) (at q)
 

@@ -2,7 +2,6 @@
 ghost use Rattle.std.specs.Prelude.{◌≡◌, cond, ◌+◌};
 ghost use Rattle.arena.specs.Elements.{element_of};
 ghost use Rattle.arena.specs.HandleSet.{bases, bit, member, Inserted, Cleared};
-ghost use Rattle.arena.specs.Lent.{given, left};
 ghost use Rattle.arena.specs.Sizes.{size_in};
 
 use crate::{Constant, Element, Expression, Global, Override, Sizes, Type, capped};
@@ -16,7 +15,7 @@ pub const MARKS: usize = (Type::LIMIT
     / 64;
 
 // Where the bits of each arena begin, those of types beginning at 0, and where the last arena's end.
-#[derive(Drop)]
+#[derive(Clone, Copy)]
 pub struct Bases {
     pub constants: u32,
     pub overrides: u32,
@@ -65,7 +64,7 @@ pub fn bit(b: Bases, x: Element) -> usize
 
 // Is bit i set ? None is past the words' end.
 pub fn contains_bit(marks: &[u64], i: usize) -> bool
-    ensures { result ≡ member (given marks) i }
+    ensures { result ≡ member marks.now i }
 {
     if i / 64 < marks.len() {
         let word = marks[i / 64];
@@ -76,7 +75,7 @@ pub fn contains_bit(marks: &[u64], i: usize) -> bool
 
 // 1 where bit i is set, else 0. The remainder itself is answered, so that a loop over the bits needs no branch on them.
 pub fn bit_at(marks: &[u64], i: usize) -> u32
-    ensures { result ≡ cond (member (given marks) i) 1 0 }
+    ensures { result ≡ cond (member marks.now i) 1 0 }
 {
     if i / 64 < marks.len() {
         let word = marks[i / 64];
@@ -87,7 +86,7 @@ pub fn bit_at(marks: &[u64], i: usize) -> u32
 
 // Sets bit i; past the words' end nothing changes.
 pub fn insert_bit(marks: &mut [u64], i: usize)
-    ensures { Inserted (given marks) i (left marks) }
+    ensures { Inserted marks.old i marks.new }
 {
     if i / 64 < marks.len() {
         let w = marks[i / 64];
@@ -97,21 +96,21 @@ pub fn insert_bit(marks: &mut [u64], i: usize)
 
 // Is the element in the set ?
 pub fn contains(marks: &[u64], b: Bases, x: Element) -> bool
-    ensures { result ≡ member (given marks) (bit b (element_of x)) }
+    ensures { result ≡ member marks.now (bit b (element_of x)) }
 {
     contains_bit(marks, bit(b, x))
 }
 
 // Puts the element into the set.
 pub fn insert(marks: &mut [u64], b: Bases, x: Element)
-    ensures { Inserted (given marks) (bit b (element_of x)) (left marks) }
+    ensures { Inserted marks.old (bit b (element_of x)) marks.new }
 {
     insert_bit(marks, bit(b, x));
 }
 
 // Empties the set.
 pub fn clear(marks: &mut [u64])
-    ensures { Cleared (given marks) (left marks) }
+    ensures { Cleared marks.old marks.new }
 {
     let mut i = 0;
     while i < marks.len() {

@@ -1,4 +1,6 @@
 // What every later crate says of a module's elements: handles, records, and the set of marked elements.
+#![tactic(auto)]
+
 ghost use Rattle.std.specs.Prelude.{◌≡◌};
 ghost use Rattle.arena.specs.Elements.{element_of, handle_of};
 
@@ -18,23 +20,23 @@ pub use records::{
 pub use sizes::Sizes;
 
 // A record's place in its area: a kind of handle for each arena, so that none stands where another is wanted.
-#[derive(Drop)]
+#[derive(Clone, Copy)]
 pub struct TypeHandle(pub u32);
 
-#[derive(Drop)]
+#[derive(Clone, Copy)]
 pub struct ConstantHandle(pub u32);
 
-#[derive(Drop)]
+#[derive(Clone, Copy)]
 pub struct OverrideHandle(pub u32);
 
-#[derive(Drop)]
+#[derive(Clone, Copy)]
 pub struct GlobalHandle(pub u32);
 
-#[derive(Drop)]
+#[derive(Clone, Copy)]
 pub struct ExpressionHandle(pub u32);
 
 // An element of the module: a record of an arena.
-#[derive(Drop)]
+#[derive(Clone, Copy)]
 pub enum Element {
     Type(TypeHandle),
     Constant(ConstantHandle),

@@ -2,7 +2,7 @@
 ghost use Rattle.std.specs.Prelude.{◌≡◌, ◌+◌, ◌<◌, min, get_or, replicate};
 ghost use Rattle.definitions.specs.Areas.{N, Arena, width, widths, limits, length_of};
 ghost use Rattle.definitions.specs.Areas.{size, word, mention_count, mention_word};
-ghost use Rattle.arena.specs.Lent.{given, areas_in};
+ghost use Rattle.arena.specs.Lent.{areas_in};
 
 use crate::{
     AREAS, CONSTANTS, ConstantHandle, EXPRESSIONS, ExpressionHandle, GLOBALS, GlobalHandle,
@@ -75,7 +75,7 @@ pub fn limit(area: usize) -> usize
 
 // The length in words of an area, by its number; 0 past the last.
 pub fn length(m: &Module, area: usize) -> usize
-    ensures { result ≡ length_of (areas_in (given m)) area }
+    ensures { result ≡ length_of (areas_in m.now) area }
 {
     if area < AREAS as usize {
         return m[area].len();
@@ -105,7 +105,7 @@ pub fn capped(a: u32, b: u32) -> u32
 
 // Word i of an area; 0 past its end.
 fn word(area: &[u32], i: usize) -> u32
-    ensures { result ≡ get_or (given area) i 0 }
+    ensures { result ≡ get_or area.now i 0 }
 {
     if i < area.len() {
         return area[i];
@@ -114,7 +114,7 @@ fn word(area: &[u32], i: usize) -> u32
 }
 
 // A type: kind, flags, a, b, tail.
-#[derive(Drop)]
+#[derive(Clone, Copy)]
 pub struct Type;
 
 impl Type {
@@ -137,7 +137,7 @@ impl Type {
     }
 
     pub fn count(m: &Module) -> usize
-        ensures { result ≡ size (areas_in (given m)) Arena.types }
+        ensures { result ≡ size (areas_in m.now) Arena.types }
     {
         m[TYPES as usize].len() / Type::WIDTH
     }
@@ -145,38 +145,38 @@ impl Type {
     // Word k of record h.
     fn word(m: &Module, h: TypeHandle, k: usize) -> u32
         requires { k < 4294967296 }
-        ensures { result ≡ word (areas_in (given m)) Arena.types h.0 k }
+        ensures { result ≡ word (areas_in m.now) Arena.types h.0 k }
     {
         word(m[TYPES as usize], h.0 as usize * Type::WIDTH + k)
     }
 
     pub fn kind(m: &Module, h: TypeHandle) -> u32
-        ensures { result ≡ word (areas_in (given m)) Arena.types h.0 0 }
+        ensures { result ≡ word (areas_in m.now) Arena.types h.0 0 }
     {
         Type::word(m, h, Type::KIND)
     }
 
     pub fn flags(m: &Module, h: TypeHandle) -> u32
-        ensures { result ≡ word (areas_in (given m)) Arena.types h.0 1 }
+        ensures { result ≡ word (areas_in m.now) Arena.types h.0 1 }
     {
         Type::word(m, h, Type::FLAGS)
     }
 
     pub fn a(m: &Module, h: TypeHandle) -> u32
-        ensures { result ≡ word (areas_in (given m)) Arena.types h.0 2 }
+        ensures { result ≡ word (areas_in m.now) Arena.types h.0 2 }
     {
         Type::word(m, h, Type::A)
     }
 
     pub fn b(m: &Module, h: TypeHandle) -> u32
-        ensures { result ≡ word (areas_in (given m)) Arena.types h.0 3 }
+        ensures { result ≡ word (areas_in m.now) Arena.types h.0 3 }
     {
         Type::word(m, h, Type::B)
     }
 }
 
 // A constant: named, type, init, tail.
-#[derive(Drop)]
+#[derive(Clone, Copy)]
 pub struct Constant;
 
 impl Constant {
@@ -197,7 +197,7 @@ impl Constant {
     }
 
     pub fn count(m: &Module) -> usize
-        ensures { result ≡ size (areas_in (given m)) Arena.constants }
+        ensures { result ≡ size (areas_in m.now) Arena.constants }
     {
         m[CONSTANTS as usize].len() / Constant::WIDTH
     }
@@ -205,32 +205,32 @@ impl Constant {
     // Word k of record h.
     fn word(m: &Module, h: ConstantHandle, k: usize) -> u32
         requires { k < 4294967296 }
-        ensures { result ≡ word (areas_in (given m)) Arena.constants h.0 k }
+        ensures { result ≡ word (areas_in m.now) Arena.constants h.0 k }
     {
         word(m[CONSTANTS as usize], h.0 as usize * Constant::WIDTH + k)
     }
 
     pub fn named(m: &Module, h: ConstantHandle) -> u32
-        ensures { result ≡ word (areas_in (given m)) Arena.constants h.0 0 }
+        ensures { result ≡ word (areas_in m.now) Arena.constants h.0 0 }
     {
         Constant::word(m, h, Constant::NAMED)
     }
 
     pub fn ty(m: &Module, h: ConstantHandle) -> TypeHandle
-        ensures { result.0 ≡ word (areas_in (given m)) Arena.constants h.0 1 }
+        ensures { result.0 ≡ word (areas_in m.now) Arena.constants h.0 1 }
     {
         TypeHandle(Constant::word(m, h, Constant::TYPE))
     }
 
     pub fn init(m: &Module, h: ConstantHandle) -> ExpressionHandle
-        ensures { result.0 ≡ word (areas_in (given m)) Arena.constants h.0 2 }
+        ensures { result.0 ≡ word (areas_in m.now) Arena.constants h.0 2 }
     {
         ExpressionHandle(Constant::word(m, h, Constant::INIT))
     }
 }
 
 // An override: named, type, init or N, tail.
-#[derive(Drop)]
+#[derive(Clone, Copy)]
 pub struct Override;
 
 impl Override {
@@ -251,7 +251,7 @@ impl Override {
     }
 
     pub fn count(m: &Module) -> usize
-        ensures { result ≡ size (areas_in (given m)) Arena.overrides }
+        ensures { result ≡ size (areas_in m.now) Arena.overrides }
     {
         m[OVERRIDES as usize].len() / Override::WIDTH
     }
@@ -259,32 +259,32 @@ impl Override {
     // Word k of record h.
     fn word(m: &Module, h: OverrideHandle, k: usize) -> u32
         requires { k < 4294967296 }
-        ensures { result ≡ word (areas_in (given m)) Arena.overrides h.0 k }
+        ensures { result ≡ word (areas_in m.now) Arena.overrides h.0 k }
     {
         word(m[OVERRIDES as usize], h.0 as usize * Override::WIDTH + k)
     }
 
     pub fn named(m: &Module, h: OverrideHandle) -> u32
-        ensures { result ≡ word (areas_in (given m)) Arena.overrides h.0 0 }
+        ensures { result ≡ word (areas_in m.now) Arena.overrides h.0 0 }
     {
         Override::word(m, h, Override::NAMED)
     }
 
     pub fn ty(m: &Module, h: OverrideHandle) -> TypeHandle
-        ensures { result.0 ≡ word (areas_in (given m)) Arena.overrides h.0 1 }
+        ensures { result.0 ≡ word (areas_in m.now) Arena.overrides h.0 1 }
     {
         TypeHandle(Override::word(m, h, Override::TYPE))
     }
 
     pub fn init(m: &Module, h: OverrideHandle) -> ExpressionHandle
-        ensures { result.0 ≡ word (areas_in (given m)) Arena.overrides h.0 2 }
+        ensures { result.0 ≡ word (areas_in m.now) Arena.overrides h.0 2 }
     {
         ExpressionHandle(Override::word(m, h, Override::INIT))
     }
 }
 
 // A global: type, init or N, tail.
-#[derive(Drop)]
+#[derive(Clone, Copy)]
 pub struct Global;
 
 impl Global {
@@ -303,7 +303,7 @@ impl Global {
     }
 
     pub fn count(m: &Module) -> usize
-        ensures { result ≡ size (areas_in (given m)) Arena.globals }
+        ensures { result ≡ size (areas_in m.now) Arena.globals }
     {
         m[GLOBALS as usize].len() / Global::WIDTH
     }
@@ -311,26 +311,26 @@ impl Global {
     // Word k of record h.
     fn word(m: &Module, h: GlobalHandle, k: usize) -> u32
         requires { k < 4294967296 }
-        ensures { result ≡ word (areas_in (given m)) Arena.globals h.0 k }
+        ensures { result ≡ word (areas_in m.now) Arena.globals h.0 k }
     {
         word(m[GLOBALS as usize], h.0 as usize * Global::WIDTH + k)
     }
 
     pub fn ty(m: &Module, h: GlobalHandle) -> TypeHandle
-        ensures { result.0 ≡ word (areas_in (given m)) Arena.globals h.0 0 }
+        ensures { result.0 ≡ word (areas_in m.now) Arena.globals h.0 0 }
     {
         TypeHandle(Global::word(m, h, Global::TYPE))
     }
 
     pub fn init(m: &Module, h: GlobalHandle) -> ExpressionHandle
-        ensures { result.0 ≡ word (areas_in (given m)) Arena.globals h.0 1 }
+        ensures { result.0 ≡ word (areas_in m.now) Arena.globals h.0 1 }
     {
         ExpressionHandle(Global::word(m, h, Global::INIT))
     }
 }
 
 // An expression: kind, nine slots, tail.
-#[derive(Drop)]
+#[derive(Clone, Copy)]
 pub struct Expression;
 
 impl Expression {
@@ -347,7 +347,7 @@ impl Expression {
     }
 
     pub fn count(m: &Module) -> usize
-        ensures { result ≡ size (areas_in (given m)) Arena.expressions }
+        ensures { result ≡ size (areas_in m.now) Arena.expressions }
     {
         m[EXPRESSIONS as usize].len() / Expression::WIDTH
     }
@@ -355,7 +355,7 @@ impl Expression {
     // Word k of record h.
     fn word(m: &Module, h: ExpressionHandle, k: usize) -> u32
         requires { k < 4294967296 }
-        ensures { result ≡ word (areas_in (given m)) Arena.expressions h.0 k }
+        ensures { result ≡ word (areas_in m.now) Arena.expressions h.0 k }
     {
         word(
             m[EXPRESSIONS as usize],
@@ -364,21 +364,21 @@ impl Expression {
     }
 
     pub fn kind(m: &Module, h: ExpressionHandle) -> u32
-        ensures { result ≡ word (areas_in (given m)) Arena.expressions h.0 0 }
+        ensures { result ≡ word (areas_in m.now) Arena.expressions h.0 0 }
     {
         Expression::word(m, h, Expression::KIND)
     }
 
     // Slot k from 1 to 9 is word k.
     pub fn slot(m: &Module, h: ExpressionHandle, k: u32) -> u32
-        ensures { result ≡ word (areas_in (given m)) Arena.expressions h.0 k }
+        ensures { result ≡ word (areas_in m.now) Arena.expressions h.0 k }
     {
         Expression::word(m, h, k as usize)
     }
 }
 
 // A mention: area 0 to 4, handle.
-#[derive(Drop)]
+#[derive(Clone, Copy)]
 pub struct Mention;
 
 impl Mention {
@@ -391,13 +391,13 @@ impl Mention {
     pub const HANDLE: usize = 1;
 
     pub fn count(m: &Module) -> usize
-        ensures { result ≡ mention_count (areas_in (given m)) }
+        ensures { result ≡ mention_count (areas_in m.now) }
     {
         m[MENTIONS as usize].len() / Mention::WIDTH
     }
 
     pub fn area(m: &Module, h: u32) -> u32
-        ensures { result ≡ mention_word (areas_in (given m)) h 0 }
+        ensures { result ≡ mention_word (areas_in m.now) h 0 }
     {
         word(
             m[MENTIONS as usize],
@@ -406,7 +406,7 @@ impl Mention {
     }
 
     pub fn handle(m: &Module, h: u32) -> u32
-        ensures { result ≡ mention_word (areas_in (given m)) h 1 }
+        ensures { result ≡ mention_word (areas_in m.now) h 1 }
     {
         word(
             m[MENTIONS as usize],

@@ -1,13 +1,13 @@
 // How many records there are.
 ghost use Rattle.std.specs.Prelude.{◌≡◌, min};
 ghost use Rattle.definitions.specs.Areas.{N};
-ghost use Rattle.arena.specs.Lent.{given, areas_in};
+ghost use Rattle.arena.specs.Lent.{areas_in};
 ghost use Rattle.arena.specs.Sizes.{counted_in};
 
 use crate::{Constant, Expression, Global, Mention, Module, N, Override, Type};
 
 // How many records each arena has, and how many mentions there are.
-#[derive(Drop)]
+#[derive(Clone, Copy)]
 pub struct Sizes {
     pub types: u32,
     pub constants: u32,
@@ -30,7 +30,7 @@ fn counted(n: usize) -> u32
 impl Sizes {
     // Of any words; no count passes N.
     pub fn of(m: &Module) -> Sizes
-        ensures { result ≡ counted_in (areas_in (given m)) }
+        ensures { result ≡ counted_in (areas_in m.now) }
     {
         Sizes {
             types: counted(Type::count(m)),

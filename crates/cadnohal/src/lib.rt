@@ -1,10 +1,13 @@
 // The C boundary: each function answers what the Rattle function of its name answers, as a plain C value.
 // Any words may be handed in.
+#![tactic(auto)]
+
 ghost use Rattle.std.specs.Prelude.{◌≡◌};
 ghost use Rattle.definitions.specs.Refusals.{check, reported};
 ghost use Rattle.definitions.specs.Outcome.{lengths, outcome};
 ghost use Rattle.definitions.specs.MapEntries.{lookup, adjust, range};
-ghost use Rattle.arena.specs.Lent.{given, areas, maps, Over};
+ghost use Rattle.definitions.specs.Areas.{areas_of};
+ghost use Rattle.arena.specs.Lent.{Over, maps_of};
 ghost use Rattle.faults.specs.Checking.{report_of};
 ghost use Rattle.compact.specs.Answer.{keep_of};
 ghost use Rattle.cadnohal.specs.Boundary.{abi, keep_word, placed};
@@ -20,7 +23,7 @@ pub const ABI: u32 = 2;
 
 // `cadnohal_answer`: where a module was refused and why, or how many records of areas 0 to 6 were kept.
 #[repr(C)]
-#[derive(Drop)]
+#[derive(Clone, Copy)]
 pub struct Answer {
     pub number: u32,
     pub area: u32,
@@ -36,7 +39,7 @@ pub struct Answer {
 
 // `cadnohal_adjusted`: the new handle, or N with the number that says why there is none.
 #[repr(C)]
-#[derive(Drop)]
+#[derive(Clone, Copy)]
 pub struct AdjustedAnswer {
     pub number: u32,
     pub handle: u32,
@@ -44,7 +47,7 @@ pub struct AdjustedAnswer {
 
 // `cadnohal_range`: the new range, or N..N with the number.
 #[repr(C)]
-#[derive(Drop)]
+#[derive(Clone, Copy)]
 pub struct RangeAnswer {
     pub number: u32,
     pub start: u32,
@@ -177,8 +180,8 @@ pub extern "C" fn cadnohal_check<'a>(
     expression_map: &'a [u32],
 ) -> Answer
     ensures { result ≡ answer_to (reported (check
-        (areas given types constants overrides globals expressions members components mentions)
-        (lengths (maps given type_map constant_map override_map global_map expression_map)))) }
+        (areas_of types.now constants.now overrides.now globals.now expressions.now members.now components.now mentions.now)
+        (lengths (maps_of type_map.now constant_map.now override_map.now global_map.now expression_map.now)))) }
 {
     let v = faults::check(
         types,
@@ -201,7 +204,7 @@ pub extern "C" fn cadnohal_check<'a>(
 // `handle_map::lookup`: the new handle, or N.
 #[unsafe(no_mangle)]
 pub extern "C" fn cadnohal_lookup(map: &[u32], handle: u32) -> u32
-    ensures { result ≡ lookup (given map) handle }
+    ensures { result ≡ lookup map.now handle }
 {
     handle_map::lookup(map, handle)
 }
@@ -209,7 +212,7 @@ pub extern "C" fn cadnohal_lookup(map: &[u32], handle: u32) -> u32
 // `handle_map::adjust`: the new handle, or 8 past the map's end and 9 where it was dropped.
 #[unsafe(no_mangle)]
 pub extern "C" fn cadnohal_adjust(map: &[u32], handle: u32) -> AdjustedAnswer
-    ensures { adjusted_in result ≡ adjust (given map) handle }
+    ensures { adjusted_in result ≡ adjust map.now handle }
 {
     match handle_map::adjust(map, handle) {
         Adjusted::To(h) => AdjustedAnswer {
@@ -230,7 +233,7 @@ pub extern "C" fn cadnohal_adjust(map: &[u32], handle: u32) -> AdjustedAnswer
 // `handle_map::adjust_range`: the range shrunk to its live handles, or 8.
 #[unsafe(no_mangle)]
 pub extern "C" fn cadnohal_adjust_range(map: &[u32], start: u32, end: u32) -> RangeAnswer
-    ensures { ranged_in result ≡ range (given map) start end }
+    ensures { ranged_in result ≡ range map.now start end }
 {
     match handle_map::adjust_range(map, start, end) {
         Ranged::Span(a, b) => RangeAnswer {

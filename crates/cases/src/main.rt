@@ -6,6 +6,8 @@
 // A shown case has 13 lines more, one for each area and map: its name and its words, more than 64 equal ones in a row as `n*w`.
 // At text of another form the program ends with `case 5: bad input`, at too many words with `case 5: does not fit`, neither with a line for
 // the case; where no case has begun it is `? bad input` or `? does not fit`.
+#![tactic(auto)]
+
 mod output;
 mod text;
 
@@ -25,7 +27,7 @@ const MAP_ROOM: usize = 2 * ROOM;
 const TEXT: usize = 8192;
 
 // What stands before a case's words.
-#[derive(Drop)]
+#[derive(Clone, Copy)]
 struct Head {
     case: u32,
     keep: u32,

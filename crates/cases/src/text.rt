@@ -2,7 +2,7 @@
 ghost use Rattle.std.specs.Prelude.{◌≡◌, ◌≤◌, length as size};
 
 // All went well; the text ended; something else than a number stands there; more words than there is room for.
-#[derive(Drop)]
+#[derive(Clone, Copy)]
 pub enum State {
     Good,
     End,
@@ -11,7 +11,7 @@ pub enum State {
 }
 
 // The number read last, how often it is to be read again, how many words the area read last has, the place past it all, and how it went.
-#[derive(Drop)]
+#[derive(Clone, Copy)]
 pub struct Read {
     pub number: u32,
     pub again: u32,

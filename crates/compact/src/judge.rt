@@ -1,7 +1,7 @@
 // The first stage: the verdict and, where it accepts, the marks of what is kept. No area and no map is written.
 ghost use Rattle.std.specs.Prelude.{◌≡◌, replicate};
-ghost use Rattle.definitions.specs.Areas.{marks_words};
-ghost use Rattle.arena.specs.Lent.{given, left, areas, maps, areas_in};
+ghost use Rattle.definitions.specs.Areas.{areas_of, marks_words};
+ghost use Rattle.arena.specs.Lent.{areas_in, maps_of};
 ghost use Rattle.compact.specs.Stages.{Accepts, MarksKept, Judges};
 
 use arena::handle_set::Bases;
@@ -10,7 +10,7 @@ use faults::{Fault, Verdict};
 use tandem::Left;
 
 // An accepted module is told with how many records it has.
-#[derive(Drop)]
+#[derive(Clone, Copy)]
 pub enum Judged {
     Accepted(Sizes),
     Refused(Fault),
@@ -20,7 +20,7 @@ pub enum Judged {
 fn mark(marks: &mut [u64], keep: bool, m: &Module) -> Sizes
     requires accepts { Accepts (areas_in m.now) }
     requires marks_value { marks.old ≡ replicate marks_words 0 }
-    ensures { MarksKept (areas_in (given m)) keep result (left marks) }
+    ensures { MarksKept (areas_in m.now) keep result marks.new }
 {
     let z = Sizes::of(m);
     let b = Bases::of(z);
@@ -53,8 +53,8 @@ pub fn judge<'a>(
 ) -> Judged
     requires { marks.old ≡ replicate marks_words 0 }
     ensures { Judges keep result
-        (areas given types constants overrides globals expressions members components mentions)
-        (maps given type_map constant_map override_map global_map expression_map) (left marks) }
+        (areas_of types.now constants.now overrides.now globals.now expressions.now members.now components.now mentions.now)
+        (maps_of type_map.now constant_map.now override_map.now global_map.now expression_map.now) marks.new }
 {
     let v = faults::check(
         types,

@@ -1,4 +1,6 @@
 // The entry: a flat shader module compacted in place, or refused with nothing changed.
+#![tactic(auto)]
+
 mod judge;
 mod number;
 mod rewrite;
@@ -12,14 +14,14 @@ pub use faults::Fault;
 use judge::Judged;
 
 // Whether named overrides and types and all globals are kept though nothing refers to them.
-#[derive(Drop)]
+#[derive(Clone, Copy)]
 pub enum KeepUnused {
     No,
     Yes,
 }
 
 // How many records of areas 0 to 6 were kept.
-#[derive(Drop)]
+#[derive(Clone, Copy)]
 pub struct Counts {
     pub types: u32,
     pub constants: u32,
@@ -30,7 +32,7 @@ pub struct Counts {
     pub components: u32,
 }
 
-#[derive(Drop)]
+#[derive(Clone, Copy)]
 pub enum Compacted {
     Kept(Counts),
     Refused(Fault),

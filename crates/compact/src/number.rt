@@ -6,7 +6,7 @@ use arena::Sizes;
 use arena::handle_set::Bases;
 
 // How many records of each arena are kept.
-#[derive(Drop)]
+#[derive(Clone, Copy)]
 pub struct RecordCounts {
     pub types: u32,
     pub constants: u32,
@@ -25,7 +25,7 @@ pub fn number(
     global_map: &mut [u32],
     expression_map: &mut [u32],
 ) -> RecordCounts
-    ensures { Numbers (given marks) z result
+    ensures { Numbers marks.now z result
         (maps given type_map constant_map override_map global_map expression_map)
         (maps left type_map constant_map override_map global_map expression_map) }
 {

@@ -1,13 +1,13 @@
 // The third stage: areas, pools and mentions by the maps.
 ghost use Rattle.std.specs.Prelude.{◌≡◌};
-ghost use Rattle.arena.specs.Lent.{given, left, areas, maps};
+ghost use Rattle.arena.specs.Lent.{given, left, areas, maps_of};
 ghost use Rattle.compact.specs.Stages.{loses_none, Rewrites};
 
 use crate::number::RecordCounts;
 use arena::{CONSTANTS, EXPRESSIONS, GLOBALS, OVERRIDES, Sizes, TYPES};
 
 // How many words of each pool are kept.
-#[derive(Drop)]
+#[derive(Clone, Copy)]
 pub struct PoolCounts {
     pub members: usize,
     pub components: usize,
@@ -52,7 +52,7 @@ pub fn rewrite<'a>(
 ) -> PoolCounts
     ensures { Rewrites z n result
         (areas given types constants overrides globals expressions members components mentions)
-        (maps given type_map constant_map override_map global_map expression_map)
+        (maps_of type_map.now constant_map.now override_map.now global_map.now expression_map.now)
         (areas left types constants overrides globals expressions members components mentions) }
 {
     if all_kept(z, n) {

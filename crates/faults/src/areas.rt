@@ -1,7 +1,7 @@
 // Numbers 1 to 3: the areas by their lengths.
 ghost use Rattle.std.specs.Prelude.{◌≡◌, ◌<◌};
 ghost use Rattle.definitions.specs.Refusals.{scan_areas};
-ghost use Rattle.arena.specs.Lent.{given, areas_in};
+ghost use Rattle.arena.specs.Lent.{areas_in};
 ghost use Rattle.faults.specs.Checking.{area_ok, areas_at, verdict_of};
 
 use crate::{Fault, Verdict};
@@ -20,7 +20,7 @@ fn areas_at(number: u32) -> usize
 // Is the area good under the number ? 1: whole records; 2: no more than its limit; 3: a map with room.
 fn fine(number: u32, area: usize, maps: &[usize; ARENAS as usize], m: &Module) -> bool
     requires { area < areas_at number }
-    ensures { result ≡ area_ok (areas_in (given m)) (given maps) number area }
+    ensures { result ≡ area_ok (areas_in m.now) maps.now number area }
 {
     let length = arena::length(m, area);
     let width = arena::width(area);
@@ -34,7 +34,7 @@ fn fine(number: u32, area: usize, maps: &[usize; ARENAS as usize], m: &Module) -
 // The first area that is at fault under the number.
 pub fn first(number: u32, maps: &[usize; ARENAS as usize], m: &Module) -> Verdict
     ensures { verdict_of result ≡ scan_areas number
-        (area_ok (areas_in (given m)) (given maps) number) (areas_at number) }
+        (area_ok (areas_in m.now) maps.now number) (areas_at number) }
 {
     let n = areas_at(number);
     let mut area = 0;

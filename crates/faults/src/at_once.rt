@@ -5,7 +5,7 @@ ghost use Rattle.definitions.specs.Areas.{numbered};
 ghost use Rattle.definitions.specs.Slots.{body};
 ghost use Rattle.definitions.specs.Refusals.{accepted, every};
 ghost use Rattle.slots.specs.Codes.{words_from, span_in, run_in};
-ghost use Rattle.arena.specs.Lent.{given, areas_in};
+ghost use Rattle.arena.specs.Lent.{areas_in};
 ghost use Rattle.arena.specs.Sizes.{sizes_of};
 ghost use Rattle.rules.specs.Rules.{good_by, leading};
 ghost use Rattle.faults.specs.Checking.{Measured, limits_at, Passed, Used, in_turn, scan_area};
@@ -45,7 +45,7 @@ fn limits(area: u32, i: u32, before: u32, z: Sizes, run: Run) -> Limits
 
 // The types with dep below expression i, from those with dep below the one before it; only an expression needs them.
 fn leads(area: u32, i: u32, before: u32, n: u32, m: &Module) -> u32
-    ensures { result ≡ cond (eqb area 4) (leading (areas_in (given m)) i before (n - before)) before }
+    ensures { result ≡ cond (eqb area 4) (leading (areas_in m.now) i before (n - before)) before }
 {
     if area == EXPRESSIONS {
         return rules::prefix(before, n, i, m);
@@ -64,9 +64,9 @@ fn record_passes(
     m: &Module,
 ) -> bool
     requires { l.run.span ≡ span_in (numbered area) (words_from ws.now at) }
-    ensures { result ≡ (every (good_by (areas_in (given m)) l)
-        (words_from (given ws) at) 0 (body (numbered area) (words_from (given ws) at))
-        && all (λ w. ltb w i) (run_in (numbered area) (words_from (given ws) at) (given pool))) }
+    ensures { result ≡ (every (good_by (areas_in m.now) l)
+        (words_from ws.now at) 0 (body (numbered area) (words_from ws.now at))
+        && all (λ w. ltb w i) (run_in (numbered area) (words_from ws.now at) pool.now)) }
 {
     if !rules::record_good(l, area, ws, at, m) {
         return false;
@@ -81,7 +81,7 @@ fn record_passes(
 fn arena_passes(area: u32, z: Sizes, m: &Module) -> bool
     requires area_bound { area < 5 }
     requires measured { Measured (areas_in m.now) × (z ≡ sizes_of (areas_in m.now)) }
-    ensures { result ≡ true → Passed (areas_in (given m)) area × Used (areas_in (given m)) (numbered area) }
+    ensures { result ≡ true → Passed (areas_in m.now) area × Used (areas_in m.now) (numbered area) }
 {
     let ws = slots::arena_words(area, m);
     let pool = slots::arena_pool(area, m);
@@ -108,7 +108,7 @@ fn arena_passes(area: u32, z: Sizes, m: &Module) -> bool
 // Do all mentions pass ?
 fn mentions_pass(z: Sizes, m: &Module) -> bool
     requires { Measured (areas_in m.now) × (z ≡ sizes_of (areas_in m.now)) }
-    ensures { result ≡ true → Passed (areas_in (given m)) 7 }
+    ensures { result ≡ true → Passed (areas_in m.now) 7 }
 {
     let n = z.mentions;
     let mut i = 0;
@@ -128,7 +128,7 @@ fn mentions_pass(z: Sizes, m: &Module) -> bool
 // Does the module pass ? Then no number from 4 to 7 has a fault.
 pub fn passes(m: &Module) -> bool
     requires { Measured (areas_in m.now) }
-    ensures { result ≡ true → (n : ℕ) → 4 ≤ n → n < 8 → in_turn (scan_area (areas_in (given m)) n) 0 8 ≡ accepted }
+    ensures { result ≡ true → (n : ℕ) → 4 ≤ n → n < 8 → in_turn (scan_area (areas_in m.now) n) 0 8 ≡ accepted }
 {
     let z = Sizes::of(m);
     let mut area = 0;

@@ -1,4 +1,6 @@
 // Refusals 1 to 7: one verdict over eight areas and five maps, which are only read.
+#![tactic(auto)]
+
 mod areas;
 mod at_once;
 mod places;
@@ -6,20 +8,21 @@ mod places;
 ghost use Rattle.std.specs.Prelude.{◌≡◌};
 ghost use Rattle.definitions.specs.Refusals.{check, reported};
 ghost use Rattle.definitions.specs.Outcome.{lengths};
-ghost use Rattle.arena.specs.Lent.{given, areas, maps, areas_in};
+ghost use Rattle.definitions.specs.Areas.{areas_of};
+ghost use Rattle.arena.specs.Lent.{areas_in, maps_of};
 ghost use Rattle.faults.specs.Checking.{report_of};
 
 use arena::{ARENAS, Module};
 
 // Where a module breaks which rule.
-#[derive(Drop)]
+#[derive(Clone, Copy)]
 pub struct Fault {
     pub number: u32,
     pub area: u32,
     pub record: u32,
 }
 
-#[derive(Drop)]
+#[derive(Clone, Copy)]
 pub enum Verdict {
     Accepted,
     Refused(Fault),
@@ -37,7 +40,7 @@ const BY_LENGTHS: usize = 3;
 // The verdict on a module and the lengths of its maps: the numbers in turn, the first fault wins.
 // A good module is told by one walk over it.
 fn judge(maps: &[usize; ARENAS as usize], m: &Module) -> Verdict
-    ensures { report_of result ≡ reported (check (areas_in (given m)) (given maps)) }
+    ensures { report_of result ≡ reported (check (areas_in m.now) maps.now) }
 {
     let mut turn = 0;
     while turn < BY_LENGTHS {
@@ -77,8 +80,8 @@ pub fn check<'a>(
     expression_map: &'a [u32],
 ) -> Verdict
     ensures { report_of result ≡ reported (check
-        (areas given types constants overrides globals expressions members components mentions)
-        (lengths (maps given type_map constant_map override_map global_map expression_map))) }
+        (areas_of types.now constants.now overrides.now globals.now expressions.now members.now components.now mentions.now)
+        (lengths (maps_of type_map.now constant_map.now override_map.now global_map.now expression_map.now))) }
 {
     let m = [
         types,

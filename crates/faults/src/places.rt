@@ -4,7 +4,7 @@ ghost use Rattle.definitions.specs.Areas.{numbered};
 ghost use Rattle.definitions.specs.References.{run};
 ghost use Rattle.definitions.specs.Order.{well_ordered};
 ghost use Rattle.definitions.specs.Refusals.{runs_before, shaped_at, held_at};
-ghost use Rattle.arena.specs.Lent.{given, areas_in};
+ghost use Rattle.arena.specs.Lent.{areas_in};
 ghost use Rattle.arena.specs.Sizes.{sizes_of, size_in};
 ghost use Rattle.rules.specs.Rules.{leading};
 ghost use Rattle.faults.specs.Checking.{Measured, verdict_of, bounds_at, most, looks_at, ok_at, places_in, places_at};
@@ -23,7 +23,7 @@ const GLOBAL_VARIABLE: u32 = 13;
 const CALL_RESULT: u32 = 27;
 
 // Where the nested loops were left.
-#[derive(Drop)]
+#[derive(Clone, Copy)]
 enum Place {
     At(u32, u32),
     Nowhere,
@@ -70,7 +70,7 @@ fn places(number: u32, area: u32, z: Sizes) -> u32
 }
 
 // What is carried from record to record: under number 4 the counts before it, under 7 the types with dep below it.
-#[derive(Drop)]
+#[derive(Clone, Copy)]
 pub struct Carried {
     pub sum: usize,
     pub types: u32,
@@ -95,7 +95,7 @@ pub fn run_sum(a: usize, b: u32) -> usize
 fn carry(number: u32, area: u32, i: u32, before: Carried, z: Sizes, m: &Module) -> Carried
     requires z_value { z ≡ sizes_of (areas_in m.now) }
     requires before_value { before ≡ carried_to (areas_in m.now) number area i }
-    ensures { result ≡ carried_at (areas_in (given m)) number area i }
+    ensures { result ≡ carried_at (areas_in m.now) number area i }
 {
     let nothing = Carried { sum: 0, types: 0 };
     match number {
@@ -129,7 +129,7 @@ fn carry(number: u32, area: u32, i: u32, before: Carried, z: Sizes, m: &Module) 
 fn shaped_at(area: u32, i: u32, sum: usize, m: &Module) -> bool
     requires measured { Measured (areas_in m.now) }
     requires sum_value { sum ≡ min (runs_before (areas_in m.now) (numbered area) i) most }
-    ensures { result ≡ shaped_at (areas_in (given m)) (numbered area) i }
+    ensures { result ≡ shaped_at (areas_in m.now) (numbered area) i }
 {
     let ws = slots::arena_words(area, m);
     let run = Run {
@@ -142,7 +142,7 @@ fn shaped_at(area: u32, i: u32, sum: usize, m: &Module) -> bool
 
 // The run of record i of an arena.
 fn run_at<'a>(area: u32, i: u32, m: &Module<'a>) -> &'a [u32]
-    ensures { result.now ≡ run (areas_in (given m)) (numbered area) i }
+    ensures { result.now ≡ run (areas_in m.now) (numbered area) i }
 {
     slots::run(
         area,
@@ -155,7 +155,7 @@ fn run_at<'a>(area: u32, i: u32, m: &Module<'a>) -> &'a [u32]
 // Number 6: are all handles of record i of an arena there ?
 fn held_at(area: u32, i: u32, z: Sizes, m: &Module) -> bool
     requires { z ≡ sizes_of (areas_in m.now) }
-    ensures { result ≡ held_at (areas_in (given m)) (numbered area) i }
+    ensures { result ≡ held_at (areas_in m.now) (numbered area) i }
 {
     if !rules::record_keeps(Rule::Held(z), area, i, m) {
         return false;
@@ -188,7 +188,7 @@ fn bounds(area: u32, i: u32, before: u32, types: u32) -> Bounds
 fn ordered_at(area: u32, i: u32, before: u32, z: Sizes, m: &Module) -> bool
     requires measured { Measured (areas_in m.now) × (z ≡ sizes_of (areas_in m.now)) }
     requires area_value { area ≡ 0 ⊎ ((area ≡ 4) × (before ≡ leading (areas_in m.now) i 0 z.types)) }
-    ensures { result ≡ well_ordered (areas_in (given m)) (numbered area) i }
+    ensures { result ≡ well_ordered (areas_in m.now) (numbered area) i }
 {
     let b = bounds(area, i, before, z.types);
     if !rules::record_keeps(Rule::Ordered(b), area, i, m) {
@@ -203,7 +203,7 @@ fn record_fine(number: u32, area: u32, i: u32, carried: Carried, z: Sizes, m: &M
     requires measured { Measured (areas_in m.now) × (z ≡ sizes_of (areas_in m.now)) }
     requires carried_value { carried ≡ carried_at (areas_in m.now) number area i }
     requires area_bound { (area < 5) × (looks_at number area ≡ true) }
-    ensures { result ≡ ok_at (areas_in (given m)) number area i }
+    ensures { result ≡ ok_at (areas_in m.now) number area i }
 {
     match number {
         4 => shaped_at(area, i, carried.sum, m),
@@ -220,7 +220,7 @@ fn record_fine(number: u32, area: u32, i: u32, carried: Carried, z: Sizes, m: &M
 fn mention_fine(number: u32, i: u32, z: Sizes, m: &Module) -> bool
     requires z_value { z ≡ sizes_of (areas_in m.now) }
     requires number_value { number ≡ 4 ⊎ number ≡ 6 }
-    ensures { result ≡ ok_at (areas_in (given m)) number 7 i }
+    ensures { result ≡ ok_at (areas_in m.now) number 7 i }
 {
     let area = Mention::area(m, i);
     if number == 4 {
@@ -235,7 +235,7 @@ fn fine(number: u32, area: u32, i: u32, carried: Carried, z: Sizes, m: &Module) 
     requires measured { Measured (areas_in m.now) × (z ≡ sizes_of (areas_in m.now)) }
     requires carried_value { carried ≡ carried_at (areas_in m.now) number area i }
     requires area_bound { (area < 8) × (i < places_at (areas_in m.now) number area) }
-    ensures { result ≡ ok_at (areas_in (given m)) number area i }
+    ensures { result ≡ ok_at (areas_in m.now) number area i }
 {
     match area {
         TYPES..=EXPRESSIONS => record_fine(number, area, i, carried, z, m),
@@ -249,7 +249,7 @@ fn fine(number: u32, area: u32, i: u32, carried: Carried, z: Sizes, m: &Module) 
 pub fn first(number: u32, m: &Module) -> Verdict
     requires le_number { (4 ≤ number) × (number < 8) }
     requires measured { Measured (areas_in m.now) }
-    ensures { verdict_of result ≡ in_turn (scan_area (areas_in (given m)) number) 0 8 }
+    ensures { verdict_of result ≡ in_turn (scan_area (areas_in m.now) number) 0 8 }
 {
     let z = Sizes::of(m);
     let mut area = 0;

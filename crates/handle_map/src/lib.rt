@@ -1,17 +1,18 @@
 // The handle map: made from a set, and the map entries of document 01 over any map, on a plain slice and through a
 // reader that holds the map it was lent.
+#![tactic(auto)]
+
 ghost use Rattle.std.specs.Prelude.{◌≡◌, cond, min, length, get_or, eqb};
 ghost use Rattle.definitions.specs.Areas.{N};
 ghost use Rattle.definitions.specs.Numbering.{rank};
 ghost use Rattle.definitions.specs.MapEntries.{lookup, adjust, live, last, spanned, range};
-ghost use Rattle.arena.specs.Lent.{given, left};
 ghost use Rattle.handle_map.specs.Answers.{adjusted_of, ranged_of};
 ghost use Rattle.handle_map.specs.FromSet.{in_set, mapped};
 
 use arena::{N, handle_set};
 
 // What an adjust answers: the new handle, or why there is none.
-#[derive(Drop)]
+#[derive(Clone, Copy)]
 pub enum Adjusted {
     To(u32),
     PastEnd,
@@ -19,7 +20,7 @@ pub enum Adjusted {
 }
 
 // What a range answers: the new start and the new end, which is past the last handle.
-#[derive(Drop)]
+#[derive(Clone, Copy)]
 pub enum Ranged {
     Span(u32, u32),
     Refused,
@@ -40,8 +41,8 @@ fn chosen(one: u32, next: u32) -> u32
 // the new handle, or N, at each old record.
 // Words past the records stay; a map shorter than the records is filled. Answers how many are kept.
 pub fn from_set(marks: &[u64], base: u32, n: u32, map: &mut [u32]) -> u32
-    ensures { (result ≡ rank (in_set (given marks) base) (min n (length (given map))))
-        × (left map ≡ mapped (in_set (given marks) base) (min n (length (given map))) (given map)) }
+    ensures { (result ≡ rank (in_set marks.now base) (min n (length map.old)))
+        × (map.new ≡ mapped (in_set marks.now base) (min n (length map.old)) map.old) }
 {
     let mut next: u32 = 0;
     let mut h: u32 = 0;
@@ -56,7 +57,7 @@ pub fn from_set(marks: &[u64], base: u32, n: u32, map: &mut [u32]) -> u32
 
 // As the Rust's `HandleMap::get`: the new handle, or N where it was dropped or is past the end.
 pub fn lookup(map: &[u32], handle: u32) -> u32
-    ensures { result ≡ lookup (given map) handle }
+    ensures { result ≡ lookup map.now handle }
 {
     let i = handle as usize;
     if i < map.len() { map[i] } else { N }
@@ -64,7 +65,7 @@ pub fn lookup(map: &[u32], handle: u32) -> u32
 
 // As `HandleMap::adjust`, which panics where this gives no handle.
 pub fn adjust(map: &[u32], handle: u32) -> Adjusted
-    ensures { adjusted_of result ≡ adjust (given map) handle }
+    ensures { adjusted_of result ≡ adjust map.now handle }
 {
     let i = handle as usize;
     if i >= map.len() {
@@ -79,7 +80,7 @@ pub fn adjust(map: &[u32], handle: u32) -> Adjusted
 
 // The first live word, from the start on; N where there is none.
 fn first_live(words: &[u32]) -> u32
-    ensures { result ≡ get_or (live (given words)) 0 N }
+    ensures { result ≡ get_or (live words.now) 0 N }
 {
     let mut i = 0;
     while i < words.len() {
@@ -94,7 +95,7 @@ fn first_live(words: &[u32]) -> u32
 
 // The last live word, from the end back; N where there is none.
 fn last_live(words: &[u32]) -> u32
-    ensures { result ≡ last N (live (given words)) }
+    ensures { result ≡ last N (live words.now) }
 {
     let mut i = words.len();
     while i > 0 {
@@ -109,7 +110,7 @@ fn last_live(words: &[u32]) -> u32
 
 // From the first live word to the last one plus 1. A live word is below N, so the sum fits.
 fn span(words: &[u32]) -> Ranged
-    ensures { ranged_of result ≡ spanned (live (given words)) }
+    ensures { ranged_of result ≡ spanned (live words.now) }
 {
     let first = first_live(words);
     if first == N {
@@ -122,7 +123,7 @@ fn span(words: &[u32]) -> Ranged
 
 // As `HandleMap::adjust_range`: a range shrunk to its live handles. Nothing is tested against the compacted arena.
 pub fn adjust_range(map: &[u32], start: u32, end: u32) -> Ranged
-    ensures { ranged_of result ≡ range (given map) start end }
+    ensures { ranged_of result ≡ range map.now start end }
 {
     let from = start as usize;
     let to = end as usize;
@@ -136,7 +137,7 @@ pub fn adjust_range(map: &[u32], start: u32, end: u32) -> Ranged
 }
 
 // A map reader. Each method takes it apart and calls the function on the slice that it holds.
-#[derive(Drop)]
+#[derive(Clone, Copy)]
 pub struct HandleMap<'a> {
     pub map: &'a [u32],
 }
@@ -163,19 +164,19 @@ impl<'a> HandleMap<'a> {
 
 // The reader's methods for a caller that has a slice and holds no reader.
 pub fn get_in(words: &[u32], handle: u32) -> u32
-    ensures { result ≡ lookup (given words) handle }
+    ensures { result ≡ lookup words.now handle }
 {
     HandleMap { map: words }.get(handle)
 }
 
 pub fn adjust_in(words: &[u32], handle: u32) -> Adjusted
-    ensures { adjusted_of result ≡ adjust (given words) handle }
+    ensures { adjusted_of result ≡ adjust words.now handle }
 {
     HandleMap { map: words }.adjust(handle)
 }
 
 pub fn adjust_range_in(words: &[u32], start: u32, end: u32) -> Ranged
-    ensures { ranged_of result ≡ range (given words) start end }
+    ensures { ranged_of result ≡ range words.now start end }
 {
     HandleMap { map: words }.adjust_range(start, end)
 }

@@ -1,5 +1,7 @@
 // Document 01, case 7, run: the ranges of the map N 0 N 1 2, then lookups and adjusts of it, all through the reader.
 // A line for each: what is asked, the number (a lookup has none), and the answer.
+#![tactic(auto)]
+
 use handle_map::{Adjusted, Ranged};
 use libc::STDOUT_FILENO;
 

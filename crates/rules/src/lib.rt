@@ -1,4 +1,6 @@
 // One record under numbers 4, 6 and 7: what is asked of its words and of its run.
+#![tactic(auto)]
+
 ghost use Rattle.std.specs.Prelude.{◌≡◌, true, false, ◌&&◌, ◌||◌, [], ◌∷◌, ℕ, ◌-◌, eqb, ltb, length};
 ghost use Rattle.definitions.specs.Areas.{N, Areas, numbered, constants, overrides, word, at, types, expressions, pool};
 ghost use Rattle.definitions.specs.Lists.{all};
@@ -6,7 +8,7 @@ ghost use Rattle.definitions.specs.Slots.{unused, body, layout};
 ghost use Rattle.definitions.specs.References.{named_by};
 ghost use Rattle.definitions.specs.Order.{with_behind, sized_by};
 ghost use Rattle.definitions.specs.Refusals.{every, runs_before};
-ghost use Rattle.arena.specs.Lent.{given, areas_in};
+ghost use Rattle.arena.specs.Lent.{areas_in};
 ghost use Rattle.arena.specs.Sizes.{size_in};
 ghost use Rattle.arena.specs.Elements.{element_of};
 ghost use Rattle.slots.specs.Codes.{decoded, unpacked, words_from, arena_of, slot_of};
@@ -19,7 +21,7 @@ use arena::{
 use slots::{Arena, Slot, code};
 
 // The counts before a record's run, as far as a word can equal them, its own count, and its pool's length.
-#[derive(Drop)]
+#[derive(Clone, Copy)]
 pub struct Run {
     pub sum: usize,
     pub span: u32,
@@ -27,7 +29,7 @@ pub struct Run {
 }
 
 // Below which type and which expression an element that is referred to must lie, unless every one may be.
-#[derive(Drop)]
+#[derive(Clone, Copy)]
 pub struct Bounds {
     pub types: u32,
     pub every_type: bool,
@@ -37,7 +39,7 @@ pub struct Bounds {
 
 // What is enough for numbers 4 to 7 at once: below which type and expression all lies that a word names or that stands
 // behind it, how many constants and overrides there are, and the record's run.
-#[derive(Drop)]
+#[derive(Clone, Copy)]
 pub struct Limits {
     pub types: u32,
     pub constants: u32,
@@ -47,7 +49,7 @@ pub struct Limits {
 }
 
 // What is asked of a record's words: under number 4, 6, 7.
-#[derive(Drop)]
+#[derive(Clone, Copy)]
 pub enum Rule {
     Shaped(Run),
     Held(Sizes),
@@ -108,7 +110,7 @@ fn init_within(b: Bounds, e: ExpressionHandle) -> bool
 
 // Do an element and all that stands behind it lie within the bounds ?
 fn element_within(b: Bounds, x: Element, m: &Module) -> bool
-    ensures { result ≡ all (within b) (with_behind (areas_in (given m)) (element_of x ∷ [])) }
+    ensures { result ≡ all (within b) (with_behind (areas_in m.now) (element_of x ∷ [])) }
 {
     match x {
         Element::Type(h) => type_within(b, h),
@@ -126,7 +128,7 @@ fn element_within(b: Bounds, x: Element, m: &Module) -> bool
 }
 
 fn ordered(b: Bounds, slot: Slot, w: u32, m: &Module) -> bool
-    ensures { result ≡ all (within b) (with_behind (areas_in (given m)) (named_by (slot_of slot) w)) }
+    ensures { result ≡ all (within b) (with_behind (areas_in m.now) (named_by (slot_of slot) w)) }
 {
     match slot {
         Slot::Must(arena) => element_within(b, slots::element(arena, w), m),
@@ -137,7 +139,7 @@ fn ordered(b: Bounds, slot: Slot, w: u32, m: &Module) -> bool
 
 // Does a word keep the rule ?
 fn keeps(rule: Rule, slot: Slot, w: u32, m: &Module) -> bool
-    ensures { result ≡ asked (areas_in (given m)) rule (slot_of slot) w }
+    ensures { result ≡ asked (areas_in m.now) rule (slot_of slot) w }
 {
     match rule {
         Rule::Shaped(run) => shaped(run, slot, w),
@@ -158,7 +160,7 @@ fn lenient(rule: Rule) -> bool
 
 // Do the first n words of the record that starts at a place keep the rule ?
 fn slots_keep(rule: Rule, ws: &[u32], at: usize, shape: u64, n: usize, m: &Module) -> bool
-    ensures { result ≡ every (asked (areas_in (given m)) rule) (words_from (given ws) at) 0 (unpacked shape n) }
+    ensures { result ≡ every (asked (areas_in m.now) rule) (words_from ws.now at) 0 (unpacked shape n) }
 {
     let mut rest = shape;
     let mut k = 0;
@@ -177,8 +179,8 @@ fn slots_keep(rule: Rule, ws: &[u32], at: usize, shape: u64, n: usize, m: &Modul
 
 // Do the words of record i of an area keep the rule ?
 pub fn record_keeps(rule: Rule, area: u32, i: u32, m: &Module) -> bool
-    ensures { result ≡ every (asked (areas_in (given m)) rule)
-        (word (areas_in (given m)) (numbered area) i) 0 (layout (areas_in (given m)) (numbered area) i) }
+    ensures { result ≡ every (asked (areas_in m.now) rule)
+        (word (areas_in m.now) (numbered area) i) 0 (layout (areas_in m.now) (numbered area) i) }
 {
     let ws = slots::arena_words(area, m);
     let width = slots::arena_width(area);
@@ -188,7 +190,7 @@ pub fn record_keeps(rule: Rule, area: u32, i: u32, m: &Module) -> bool
 
 // Does a constant, with its type and its init, lie within the limits ?
 fn constant_fits(l: Limits, h: ConstantHandle, m: &Module) -> bool
-    ensures { result ≡ fit_by (areas_in (given m)) l constants h.0 }
+    ensures { result ≡ fit_by (areas_in m.now) l constants h.0 }
 {
     if l.constants <= h.0 {
         return false;
@@ -201,7 +203,7 @@ fn constant_fits(l: Limits, h: ConstantHandle, m: &Module) -> bool
 
 // And an override, which may have no init ?
 fn override_fits(l: Limits, h: OverrideHandle, m: &Module) -> bool
-    ensures { result ≡ fit_by (areas_in (given m)) l overrides h.0 }
+    ensures { result ≡ fit_by (areas_in m.now) l overrides h.0 }
 {
     if l.overrides <= h.0 {
         return false;
@@ -218,7 +220,7 @@ fn override_fits(l: Limits, h: OverrideHandle, m: &Module) -> bool
 
 // Is a word good under numbers 4 to 7 at once, by its slot's code ?
 fn slot_good(l: Limits, code: u64, w: u32, m: &Module) -> bool
-    ensures { result ≡ good_by (areas_in (given m)) l (decoded code) w }
+    ensures { result ≡ good_by (areas_in m.now) l (decoded code) w }
 {
     match code {
         code::FREE => false,
@@ -239,7 +241,7 @@ fn slot_good(l: Limits, code: u64, w: u32, m: &Module) -> bool
 
 // Is each word from k on, up to n, of the record that starts at a place N ?
 fn blank(ws: &[u32], at: usize, k: usize, n: usize) -> bool
-    ensures { result ≡ every empty (words_from (given ws) at) k (unpacked 0 (n - k)) }
+    ensures { result ≡ every empty (words_from ws.now at) k (unpacked 0 (n - k)) }
 {
     let mut i = k;
     while i < n {
@@ -253,7 +255,7 @@ fn blank(ws: &[u32], at: usize, k: usize, n: usize) -> bool
 
 // Are the first n words of the record that starts at a place good ?
 fn slots_good(l: Limits, ws: &[u32], at: usize, shape: u64, n: usize, m: &Module) -> bool
-    ensures { result ≡ every (good_by (areas_in (given m)) l) (words_from (given ws) at) 0 (unpacked shape n) }
+    ensures { result ≡ every (good_by (areas_in m.now) l) (words_from ws.now at) 0 (unpacked shape n) }
 {
     let mut rest = shape;
     let mut k = 0;
@@ -272,7 +274,7 @@ fn slots_good(l: Limits, ws: &[u32], at: usize, shape: u64, n: usize, m: &Module
 
 // Are a type and an init good, at their places in the record ? Unless it must be there the init may be N.
 fn typed_good(l: Limits, ws: &[u32], at: usize, ty: usize, init: usize, must: bool) -> bool
-    ensures { result ≡ typed_fits l must (words_from (given ws) at ty) (words_from (given ws) at init) }
+    ensures { result ≡ typed_fits l must (words_from ws.now at ty) (words_from ws.now at init) }
 {
     if l.types <= slots::word(ws, at, ty) {
         return false;
@@ -286,8 +288,8 @@ fn typed_good(l: Limits, ws: &[u32], at: usize, ty: usize, init: usize, must: bo
 
 // Are all words of the record that starts at a place good, but those of its tail ?
 pub fn record_good(l: Limits, area: u32, ws: &[u32], at: usize, m: &Module) -> bool
-    ensures { result ≡ every (good_by (areas_in (given m)) l)
-        (words_from (given ws) at) 0 (body (numbered area) (words_from (given ws) at)) }
+    ensures { result ≡ every (good_by (areas_in m.now) l)
+        (words_from ws.now at) 0 (body (numbered area) (words_from ws.now at)) }
 {
     match area {
         CONSTANTS => {
@@ -312,7 +314,7 @@ pub fn record_good(l: Limits, area: u32, ws: &[u32], at: usize, m: &Module) -> b
 
 // Are all handles of a run below the bound ?
 pub fn all_below(run: &[u32], bound: u32) -> bool
-    ensures { result ≡ all (λ w. ltb w bound) (given run) }
+    ensures { result ≡ all (λ w. ltb w bound) run.now }
 {
     let mut i = 0;
     while i < run.len() {
@@ -326,8 +328,8 @@ pub fn all_below(run: &[u32], bound: u32) -> bool
 
 // Do the counts of the runs of the first n records of an arena add up to its pool's length ?
 pub fn pool_used(area: u32, n: u32, m: &Module) -> bool
-    ensures { result ≡ eqb (runs_before (areas_in (given m)) (numbered area) n)
-        (length (pool (areas_in (given m)) (numbered area))) }
+    ensures { result ≡ eqb (runs_before (areas_in m.now) (numbered area) n)
+        (length (pool (areas_in m.now) (numbered area))) }
 {
     let ws = slots::arena_words(area, m);
     let width = slots::arena_width(area);
@@ -346,7 +348,7 @@ pub fn pool_used(area: u32, n: u32, m: &Module) -> bool
 
 // One more than the init of the override that sizes type t; 0 where there is none.
 pub fn sized(t: TypeHandle, m: &Module) -> usize
-    ensures { result ≡ sized_by (areas_in (given m)) t.0 }
+    ensures { result ≡ sized_by (areas_in m.now) t.0 }
 {
     if Type::kind(m, t) == 2 {
         let init = Override::init(m, OverrideHandle(Type::b(m, t)));
@@ -360,7 +362,7 @@ pub fn sized(t: TypeHandle, m: &Module) -> usize
 
 // From type t on, the first of n types that is sized by an override with an init not below expression e.
 pub fn prefix(t: u32, n: u32, e: u32, m: &Module) -> u32
-    ensures { result ≡ leading (areas_in (given m)) e t (n - t) }
+    ensures { result ≡ leading (areas_in m.now) e t (n - t) }
 {
     let mut u = t;
     while u < n {

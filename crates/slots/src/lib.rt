@@ -1,4 +1,6 @@
 // What each word of a record is: one decision over the kinds, and the shape that it gives.
+#![tactic(auto)]
+
 pub mod code;
 mod shapes;
 
@@ -6,7 +8,7 @@ ghost use Rattle.std.specs.Prelude.{◌≡◌, ◌+◌, ◌%◌, get_or, []};
 ghost use Rattle.definitions.specs.Areas.{numbered, at, width, words, pool};
 ghost use Rattle.definitions.specs.Slots.{form_of, body};
 ghost use Rattle.slots.specs.Codes.{decoded, packed, arena_of, slot_of, words_from, span_in, run_in};
-ghost use Rattle.arena.specs.Lent.{given, areas_in};
+ghost use Rattle.arena.specs.Lent.{areas_in};
 ghost use Rattle.arena.specs.Elements.{element_of};
 
 use arena::{
@@ -17,7 +19,7 @@ use arena::{
 pub use shapes::expression_shape;
 
 // The five arenas.
-#[derive(Drop)]
+#[derive(Clone, Copy)]
 pub enum Arena {
     Types,
     Constants,
@@ -27,7 +29,7 @@ pub enum Arena {
 }
 
 // What a word of a record is.
-#[derive(Drop)]
+#[derive(Clone, Copy)]
 pub enum Slot {
     Unused,
     Free,
@@ -53,7 +55,7 @@ pub fn element(arena: Arena, h: u32) -> Element
 
 // Word k of the record that starts at a place; 0 past the end.
 pub fn word(ws: &[u32], at: usize, k: usize) -> u32
-    ensures { result ≡ get_or (given ws) (at + k) 0 }
+    ensures { result ≡ get_or ws.now (at + k) 0 }
 {
     if at < ws.len() {
         if k < ws.len() - at {
@@ -86,7 +88,7 @@ pub fn first(shape: u64) -> Slot
 
 // The form of an expression, where it is an `ImageSample` or an `ImageQuery`.
 fn form(ws: &[u32], at: usize) -> u32
-    ensures { result ≡ form_of (words_from (given ws) at) }
+    ensures { result ≡ form_of (words_from ws.now at) }
 {
     let kind = word(ws, at, Expression::KIND);
     if kind == 15 {
@@ -100,7 +102,7 @@ fn form(ws: &[u32], at: usize) -> u32
 
 // The slots of the body of the record that starts at a place, by its area.
 pub fn shape(area: u32, ws: &[u32], at: usize) -> u64
-    ensures { result ≡ packed (body (numbered area) (words_from (given ws) at)) }
+    ensures { result ≡ packed (body (numbered area) (words_from ws.now at)) }
 {
     match area {
         TYPES => shapes::type_shape(word(ws, at, Type::KIND)),
@@ -113,7 +115,7 @@ pub fn shape(area: u32, ws: &[u32], at: usize) -> u64
 
 // The count of the run of the record that starts at a place; 0 without one.
 pub fn span(area: u32, ws: &[u32], at: usize) -> u32
-    ensures { result ≡ span_in (numbered area) (words_from (given ws) at) }
+    ensures { result ≡ span_in (numbered area) (words_from ws.now at) }
 {
     match area {
         TYPES => {
@@ -133,7 +135,7 @@ pub fn span(area: u32, ws: &[u32], at: usize) -> u32
 
 // The run of the record that starts at a place, as part of its pool.
 pub fn run<'a>(area: u32, ws: &[u32], at: usize, pool: &'a [u32]) -> &'a [u32]
-    ensures { result.now ≡ run_in (numbered area) (words_from (given ws) at) (given pool) }
+    ensures { result.now ≡ run_in (numbered area) (words_from ws.now at) pool.now }
 {
     let start = least(word(ws, at, shapes::RUN_START) as usize, pool.len());
     let end = least(
@@ -171,7 +173,7 @@ pub fn arena_width(area: u32) -> usize
 
 // Its words, in a module that is only read.
 pub fn arena_words<'a>(area: u32, m: &Module<'a>) -> &'a [u32]
-    ensures { result.now ≡ words (areas_in (given m)) (numbered area) }
+    ensures { result.now ≡ words (areas_in m.now) (numbered area) }
 {
     if area < EXPRESSIONS {
         return m[area as usize];
@@ -188,7 +190,7 @@ fn none<'a>(ws: &'a [u32]) -> &'a [u32]
 
 // The pool that its runs lie in; empty for an arena without runs.
 pub fn arena_pool<'a>(area: u32, m: &Module<'a>) -> &'a [u32]
-    ensures { result.now ≡ pool (areas_in (given m)) (numbered area) }
+    ensures { result.now ≡ pool (areas_in m.now) (numbered area) }
 {
     match area {
         TYPES => m[MEMBERS as usize],

@@ -1,7 +1,7 @@
 // dep of a type, by two levels: what the types before each block of 256 have, and one block.
 // The scratch is 4 KiB for 65,536 types; what stands before a block past them is computed anew.
 ghost use Rattle.std.specs.Prelude.{◌≡◌, ◌*◌, ◌≤◌, ◌<◌, max, length};
-ghost use Rattle.arena.specs.Lent.{given, left, areas_in};
+ghost use Rattle.arena.specs.Lent.{areas_in};
 ghost use Rattle.tandem.specs.Deps.{dep_before, Starts, Block, Held};
 
 use arena::{Module, TypeHandle};
@@ -22,7 +22,7 @@ fn larger(a: usize, b: usize) -> usize
 // From what the types before `from` have, what those before `to` have.
 fn deepest(from: u32, to: u32, before: usize, m: &Module) -> usize
     requires { (from ≤ to) × (before ≡ dep_before (areas_in m.now) from) }
-    ensures { result ≡ dep_before (areas_in (given m)) to }
+    ensures { result ≡ dep_before (areas_in m.now) to }
 {
     let mut deep = before;
     let mut t = from;
@@ -36,7 +36,7 @@ fn deepest(from: u32, to: u32, before: usize, m: &Module) -> usize
 // Fills the first level for n types.
 pub fn fill_starts(n: u32, starts: &mut [usize; 256], m: &Module)
     requires { length starts.old ≡ 256 }
-    ensures { Starts (areas_in (given m)) n (left starts) }
+    ensures { Starts (areas_in m.now) n starts.new }
 {
     let mut deep = 0;
     let mut k: u32 = 0;
@@ -50,7 +50,7 @@ pub fn fill_starts(n: u32, starts: &mut [usize; 256], m: &Module)
 // Fills the second level with block k of n types.
 fn fill_block(n: u32, starts: &[usize; 256], k: u32, block: &mut [usize; 256], m: &Module)
     requires { Starts (areas_in m.now) n starts.now × (k * 256 < n) × (length block.old ≡ 256) }
-    ensures { Block (areas_in (given m)) k (left block) }
+    ensures { Block (areas_in m.now) k block.new }
 {
     let mut deep = if k < 256 {
         starts[k as usize]
@@ -77,7 +77,7 @@ pub fn dep_before(
     m: &Module,
 ) -> usize
     requires { Starts (areas_in m.now) n starts.now × (t ≤ n) × Held (areas_in m.now) held.old block.old }
-    ensures { (result ≡ dep_before (areas_in (given m)) t) × Held (areas_in (given m)) (left held) (left block) }
+    ensures { (result ≡ dep_before (areas_in m.now) t) × Held (areas_in m.now) held.new block.new }
 {
     if t == 0 {
         return 0;

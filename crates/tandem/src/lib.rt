@@ -1,8 +1,10 @@
 // The sweep: types and expressions in tandem, youngest first. As the Rust's `ModuleTracer::type_expression_tandem`.
+#![tactic(auto)]
+
 mod deps;
 
 ghost use Rattle.std.specs.Prelude.{◌≡◌, ◌+◌, ◌<◌, take, drop};
-ghost use Rattle.arena.specs.Lent.{given, left, areas_in};
+ghost use Rattle.arena.specs.Lent.{areas_in};
 ghost use Rattle.trace.specs.Bits.{Swept};
 ghost use Rattle.tandem.specs.Deps.{dep_before};
 ghost use Rattle.tandem.specs.Visited.{ahead, OneVisit};
@@ -11,7 +13,7 @@ use arena::handle_set::Bases;
 use arena::{ExpressionHandle, Module, TypeHandle};
 
 // How many types and how many expressions are left to visit: the oldest of each.
-#[derive(Drop)]
+#[derive(Clone, Copy)]
 pub struct Left {
     pub types: u32,
     pub expressions: u32,
@@ -20,7 +22,7 @@ pub struct Left {
 // Makes the next visit, of the youngest expression where it is above dep of the youngest type; answers what is left.
 fn visit(marks: &mut [u64], b: Bases, rest: Left, dep: usize, m: &Module) -> Left
     requires { (dep ≡ dep_before (areas_in m.now) rest.types) × (0 < rest.types + rest.expressions) }
-    ensures { OneVisit (areas_in (given m)) b rest result (given marks) (left marks) }
+    ensures { OneVisit (areas_in m.now) b rest result marks.old marks.new }
 {
     if dep < rest.expressions as usize {
         let e = rest.expressions - 1;
@@ -46,8 +48,8 @@ pub fn type_expression_tandem(
     budget: usize,
     m: &Module,
 ) -> Left
-    ensures { (ahead (areas_in (given m)) result ≡ drop budget (ahead (areas_in (given m)) all))
-        × Swept (areas_in (given m)) b (take budget (ahead (areas_in (given m)) all)) (given marks) (left marks) }
+    ensures { (ahead (areas_in m.now) result ≡ drop budget (ahead (areas_in m.now) all))
+        × Swept (areas_in m.now) b (take budget (ahead (areas_in m.now) all)) marks.old marks.new }
 {
     let mut starts = [0usize; 256];
     let mut block = [0usize; 256];

@@ -1,11 +1,13 @@
 // Marking: an element with what stands behind it, what a record refers to, the roots.
+#![tactic(auto)]
+
 mod roots;
 
 ghost use Rattle.std.specs.Prelude.{[], ◌∷◌, map};
 ghost use Rattle.definitions.specs.Areas.{at, numbered, types, constants, overrides, globals, expressions};
 ghost use Rattle.definitions.specs.Slots.{may};
 ghost use Rattle.definitions.specs.References.{named_by, named_from};
-ghost use Rattle.arena.specs.Lent.{given, left, areas_in};
+ghost use Rattle.arena.specs.Lent.{areas_in};
 ghost use Rattle.arena.specs.Elements.{element_of};
 ghost use Rattle.arena.specs.HandleSet.{bit};
 ghost use Rattle.slots.specs.Codes.{decoded, unpacked, words_from};
@@ -22,7 +24,7 @@ use slots::code;
 // Marks a type and, unless it is N, an init.
 fn mark_both(marks: &mut [u64], b: Bases, ty: TypeHandle, init: ExpressionHandle)
     ensures { Put (map (bit b) (at types ty.0 ∷ named_by (may expressions) init.0))
-        (given marks) (left marks) }
+        marks.old marks.new }
 {
     handle_set::insert(marks, b, Element::Type(ty));
     if init.0 != N {
@@ -32,7 +34,7 @@ fn mark_both(marks: &mut [u64], b: Bases, ty: TypeHandle, init: ExpressionHandle
 
 // Marks a constant with its type and init.
 fn mark_constant(marks: &mut [u64], b: Bases, h: ConstantHandle, m: &Module)
-    ensures { Marked (areas_in (given m)) b (at constants h.0 ∷ []) (given marks) (left marks) }
+    ensures { Marked (areas_in m.now) b (at constants h.0 ∷ []) marks.old marks.new }
 {
     handle_set::insert(marks, b, Element::Constant(h));
     handle_set::insert(marks, b, Element::Type(Constant::ty(m, h)));
@@ -41,7 +43,7 @@ fn mark_constant(marks: &mut [u64], b: Bases, h: ConstantHandle, m: &Module)
 
 // Marks an override with its type and init.
 fn mark_override(marks: &mut [u64], b: Bases, h: OverrideHandle, m: &Module)
-    ensures { Marked (areas_in (given m)) b (at overrides h.0 ∷ []) (given marks) (left marks) }
+    ensures { Marked (areas_in m.now) b (at overrides h.0 ∷ []) marks.old marks.new }
 {
     handle_set::insert(marks, b, Element::Override(h));
     mark_both(marks, b, Override::ty(m, h), Override::init(m, h));
@@ -49,7 +51,7 @@ fn mark_override(marks: &mut [u64], b: Bases, h: OverrideHandle, m: &Module)
 
 // Marks a global with its type and init.
 fn mark_global(marks: &mut [u64], b: Bases, h: GlobalHandle, m: &Module)
-    ensures { Marked (areas_in (given m)) b (at globals h.0 ∷ []) (given marks) (left marks) }
+    ensures { Marked (areas_in m.now) b (at globals h.0 ∷ []) marks.old marks.new }
 {
     handle_set::insert(marks, b, Element::Global(h));
     mark_both(marks, b, Global::ty(m, h), Global::init(m, h));
@@ -57,7 +59,7 @@ fn mark_global(marks: &mut [u64], b: Bases, h: GlobalHandle, m: &Module)
 
 // Marks an element; a constant, override or global with its type and init at once.
 pub fn mark(marks: &mut [u64], b: Bases, x: Element, m: &Module)
-    ensures { Marked (areas_in (given m)) b (element_of x ∷ []) (given marks) (left marks) }
+    ensures { Marked (areas_in m.now) b (element_of x ∷ []) marks.old marks.new }
 {
     match x {
         Element::Type(h) => handle_set::insert(marks, b, Element::Type(h)),
@@ -70,7 +72,7 @@ pub fn mark(marks: &mut [u64], b: Bases, x: Element, m: &Module)
 
 // Marks what a slot names, by its code. No slot names a global.
 fn trace_slot(marks: &mut [u64], b: Bases, code: u64, w: u32, m: &Module)
-    ensures { Marked (areas_in (given m)) b (named_by (decoded code) w) (given marks) (left marks) }
+    ensures { Marked (areas_in m.now) b (named_by (decoded code) w) marks.old marks.new }
 {
     match code {
         code::TYPE => handle_set::insert(marks, b, Element::Type(TypeHandle(w))),
@@ -88,8 +90,8 @@ fn trace_slot(marks: &mut [u64], b: Bases, code: u64, w: u32, m: &Module)
 
 // Marks what the slots of the record that starts at a place name.
 fn trace_slots(marks: &mut [u64], b: Bases, ws: &[u32], at: usize, shape: u64, m: &Module)
-    ensures { Marked (areas_in (given m)) b (named_from (words_from (given ws) at) 0 (unpacked shape 10))
-        (given marks) (left marks) }
+    ensures { Marked (areas_in m.now) b (named_from (words_from ws.now at) 0 (unpacked shape 10))
+        marks.old marks.new }
 {
     let mut rest = shape;
     let mut k = 0;
@@ -102,7 +104,7 @@ fn trace_slots(marks: &mut [u64], b: Bases, ws: &[u32], at: usize, shape: u64, m
 
 // Marks the handles of a run.
 fn trace_run(marks: &mut [u64], b: Bases, area: u32, run: &[u32])
-    ensures { Put (map (bit b) (map (at (numbered area)) (given run))) (given marks) (left marks) }
+    ensures { Put (map (bit b) (map (at (numbered area)) run.now)) marks.old marks.new }
 {
     let mut i = 0;
     while i < run.len() {
@@ -113,7 +115,7 @@ fn trace_run(marks: &mut [u64], b: Bases, area: u32, run: &[u32])
 
 // Visits record i of an area: where it is marked, marks what it refers to.
 pub fn trace(marks: &mut [u64], b: Bases, area: u32, i: u32, m: &Module)
-    ensures { Visited (areas_in (given m)) b (at (numbered area) i) (given marks) (left marks) }
+    ensures { Visited (areas_in m.now) b (at (numbered area) i) marks.old marks.new }
 {
     if handle_set::contains(marks, b, slots::element(slots::arena_at(area), i)) {
         let ws = slots::arena_words(area, m);
@@ -132,7 +134,7 @@ pub fn trace(marks: &mut [u64], b: Bases, area: u32, i: u32, m: &Module)
 
 // Visits a type. As the Rust's `TypeTracer::trace_type`, under its caller's test: an unmarked type is spared the call.
 pub fn trace_type(marks: &mut [u64], b: Bases, h: TypeHandle, m: &Module)
-    ensures { Visited (areas_in (given m)) b (at types h.0) (given marks) (left marks) }
+    ensures { Visited (areas_in m.now) b (at types h.0) marks.old marks.new }
 {
     if handle_set::contains(marks, b, Element::Type(h)) {
         trace(marks, b, TYPES, h.0, m);
@@ -141,7 +143,7 @@ pub fn trace_type(marks: &mut [u64], b: Bases, h: TypeHandle, m: &Module)
 
 // Visits an expression. As `ExpressionTracer::trace_expression`, under its caller's test likewise.
 pub fn trace_expression(marks: &mut [u64], b: Bases, h: ExpressionHandle, m: &Module)
-    ensures { Visited (areas_in (given m)) b (at expressions h.0) (given marks) (left marks) }
+    ensures { Visited (areas_in m.now) b (at expressions h.0) marks.old marks.new }
 {
     if handle_set::contains(marks, b, Element::Expression(h)) {
         trace(marks, b, EXPRESSIONS, h.0, m);

@@ -3,7 +3,7 @@ ghost use Rattle.std.specs.Prelude.{◌≡◌, map};
 ghost use Rattle.definitions.specs.Lists.{count_up};
 ghost use Rattle.definitions.specs.Areas.{numbered};
 ghost use Rattle.definitions.specs.Roots.{mention};
-ghost use Rattle.arena.specs.Lent.{given, left, areas_in};
+ghost use Rattle.arena.specs.Lent.{areas_in};
 ghost use Rattle.trace.specs.Bits.{Marked, root_in, those_in, roots_in};
 
 use crate::mark;
@@ -15,7 +15,7 @@ use arena::{
 
 // Is the record a root by itself ? A constant in both modes, the others with Yes.
 fn is_root(area: u32, i: u32, m: &Module) -> bool
-    ensures { result ≡ root_in (areas_in (given m)) (numbered area) i }
+    ensures { result ≡ root_in (areas_in m.now) (numbered area) i }
 {
     match area {
         TYPES => Type::flags(m, TypeHandle(i)) % 2 == 1,
@@ -34,8 +34,8 @@ fn is_root(area: u32, i: u32, m: &Module) -> bool
 
 // Marks those of the first n records of an arena that are roots by themselves.
 fn mark_those(marks: &mut [u64], b: Bases, area: u32, n: u32, m: &Module)
-    ensures { Marked (areas_in (given m)) b (those_in (areas_in (given m)) (numbered area) n)
-        (given marks) (left marks) }
+    ensures { Marked (areas_in m.now) b (those_in (areas_in m.now) (numbered area) n)
+        marks.old marks.new }
 {
     let mut i = 0;
     while i < n {
@@ -48,8 +48,8 @@ fn mark_those(marks: &mut [u64], b: Bases, area: u32, n: u32, m: &Module)
 
 // Marks what the first n mentions name.
 fn mark_mentions(marks: &mut [u64], b: Bases, n: u32, m: &Module)
-    ensures { Marked (areas_in (given m)) b (map (mention (areas_in (given m))) (count_up 0 n))
-        (given marks) (left marks) }
+    ensures { Marked (areas_in m.now) b (map (mention (areas_in m.now)) (count_up 0 n))
+        marks.old marks.new }
 {
     let mut i = 0;
     while i < n {
@@ -62,7 +62,7 @@ fn mark_mentions(marks: &mut [u64], b: Bases, n: u32, m: &Module)
 
 // Marks the roots; `keep` is true for `KeepUnused::Yes`. The sizes say how many of each are looked at.
 pub fn mark_roots(marks: &mut [u64], b: Bases, keep: bool, n: Sizes, m: &Module)
-    ensures { Marked (areas_in (given m)) b (roots_in (areas_in (given m)) keep n) (given marks) (left marks) }
+    ensures { Marked (areas_in m.now) b (roots_in (areas_in m.now) keep n) marks.old marks.new }
 {
     mark_mentions(marks, b, n.mentions, m);
     mark_those(marks, b, CONSTANTS, n.constants, m);

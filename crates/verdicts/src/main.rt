@@ -5,6 +5,8 @@
 // * with a number stands for so many words more that repeat the word before them, + for so many that
 // repeat the record before them. Behind r stand the lengths of the five maps, MAP_ROOM each without it. A
 // line that starts with # is passed over. A text of TEXT bytes or more ends with `? does not fit`, with no verdict.
+#![tactic(auto)]
+
 ghost use Rattle.std.specs.Prelude.{◌≤◌, length};
 
 use arena::{Mention, N, least};
@@ -25,7 +27,7 @@ const LETTERS: [u8; 9] = [b't', b'c', b'o', b'g', b'e', b'm', b'k', b'q', b'r'];
 
 // How far a line was read for one area: the number so far, if there is some; whether it stands behind the area's letter; and how far
 // back the words lie that it repeats, 0 where it is a word itself.
-#[derive(Drop)]
+#[derive(Clone, Copy)]
 struct Reading {
     value: u32,
     some: bool,
