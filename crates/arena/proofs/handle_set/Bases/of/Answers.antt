@@ -7,20 +7,7 @@ use Rattle.definitions.specs.Areas.{N, Arena, types, constants, overrides, globa
 use Rattle.arena.specs.declared.handle_set.Bases.{Bases}
 use Rattle.arena.specs.HandleSet.{bases}
 use Rattle.arena.specs.Sizes.{size_in}
-use Rattle.arena.proofs.handle_set.Bases.of.Statement.{statement}
-use Rattle.arena.proofs.handle_set.Bases.of.Tie as tie
-
-capped-requires : tie.Need-capped-requires
-capped-requires c κs = search rules
-
-capped-requires-2 : tie.Need-capped-requires-2
-capped-requires-2 c κs = search rules
-
-capped-requires-3 : tie.Need-capped-requires-3
-capped-requires-3 c κs = search rules
-
-capped-requires-4 : tie.Need-capped-requires-4
-capped-requires-4 c κs = search rules
+use Rattle.arena.proofs.handle_set.Bases.of.Goals as goal
 
 -- one more count
 capped-sum : (a n p q : ℕ) → p ≡ min a N → q ≡ min (p + n) N → q ≡ min (a + n) N
@@ -34,11 +21,8 @@ summed n p q r s hp hq hr hs =
     let hs' = capped-sum (n types + n constants + n overrides + n globals) (n expressions) r s hr' hs in
     λ i. record { constants = n types; overrides = hp i; globals = hq' i; expressions = hr' i; end = hs' i }
 
-returns : tie.Need-returns
+pub returns : goal.returns
 returns c =
-    let a = c.before.before.before.before.args in
+    let a = c.args in
     summed (size_in a.z) _ _ _ _
-    c.before.before.before.capped.ensures c.before.before.capped2.ensures c.before.capped3.ensures c.capped4.ensures
-
-pub of_spec : {M : Type 1} → statement M
-of_spec = tie.close (tie.spec capped-requires capped-requires-2 capped-requires-3 capped-requires-4 returns)
+    c.capped-to_overrides.ensures c.capped-to_globals.ensures c.capped-to_expressions.ensures c.capped.ensures

@@ -1,0 +1,8 @@
+-- The word at the place that the definition's width gives. Assumes nothing.
+use borrow.Author.Rules.{rules}
+use Rattle.definitions.specs.Areas.{width, words, word}
+use Rattle.arena.proofs.records.Type.word.Goals as goal
+
+pub returns : goal.returns
+unfolding width words word
+returns c = c.word.ensures
