@@ -1,0 +1,30 @@
+-- `handle_map::last_live` meets its contract. The invariant: no word from `i` on is live. The measure is `i`.
+-- Assumes nothing.
+use mathlib.Core.Path.{◌≡◌, ap, sym}
+use Prim.Native.Nat.{◌≤◌}
+use native.Mathlib.Omega.{arith}
+use borrow.Author.Rules.{rules}
+use lib.ListN.{length, take}
+use lib.Seq.{take-length}
+use Rattle.definitions.specs.MapEntries.{live}
+use Rattle.handle_map.proofs.Live.{before, last-is, no_last}
+use Rattle.handle_map.proofs.last_live.Goals as goal
+
+pub loop-i-init : goal.loop-i-init
+loop-i-init c = (omega arith, ap live (sym (take-length _)))
+
+pub overflow_sub-i : goal.overflow_sub-i
+overflow_sub-i c = omega arith
+
+pub returns-then-last : goal.returns-then-last
+returns-then-last c =
+    let l = c in
+    last-is l.args.words.now l.loop-i.i l.loop-i.invariant.1 (omega arith) l.loop-i.invariant.0 c.if-last.true
+
+pub loop-i-preserved : goal.loop-i-preserved
+loop-i-preserved c =
+    let l = c in
+    (omega arith, before l.args.words.now l.loop-i.i l.loop-i.invariant.1 (omega arith) l.loop-i.invariant.0 c.if-last.false)
+
+pub returns : goal.returns
+returns c = no_last c.args.words.now c.loop-i.i c.loop-i.invariant.1 (omega arith)
