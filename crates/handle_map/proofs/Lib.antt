@@ -1,8 +1,4 @@
--- The laws of live words, that each contract allows one outcome, and the walks of the functions over a reader.
+-- The laws of live words, and that each contract allows one outcome.
 pub mod Live
 pub mod Once
-pub mod Numbers
-pub mod Forward
-pub mod Reader
-pub mod Passing
 pub mod Steps
