@@ -1,0 +1,52 @@
+-- `adjust::adjust_arena` meets its contract: after h turns the pass stands as `Rewriting` says.
+-- Assumes nothing.
+use mathlib.Core.Path.{sym, ap, ◌∙◌}
+use mathlib.Core.Logic.{⊎_elim}
+use Prim.Native.Nat.{◌+◌, ◌-◌, ◌≤◌, ◌<◌}
+use native.Mathlib.Nat.{div-le_self}
+use native.Mathlib.Omega.{arith}
+use lib.ListN.{length}
+use Rattle.definitions.specs.Areas.{numbered}
+use Rattle.definitions.specs.Outcome.{map_of}
+use Rattle.definitions.proofs.Reading.{width-pos}
+use Rattle.arena.specs.Lent.{maps_of}
+use Rattle.adjust.proofs.Passes.{Rewriting, rewriting, within, record-dropped, record-kept, rewritten}
+use borrow.Author.Rules.{rules}
+use Rattle.adjust.proofs.adjust_arena.Goals as goal
+
+-- ?? div-n : tie.Need-nonzero-div-n invariant-loop decreases-loop
+-- div-n c = let w = (let it : 0 < c.before.before.arena-width.result = let w = width-pos (numbered c.before.before.before.before.before.before.before.before.before.args.area) in omega (arith, c.before.before.arena-width.ensures) in it) in omega arith
+
+pub loop-h-init : goal.loop-h-init
+loop-h-init c = (search rules, rewriting _ _ _ _)
+
+pub adjust_kept-requires : goal.adjust_kept-requires
+adjust_kept-requires c = let r = (let it : c.loop-h.from + c.arena_width-width.result ≤ length c.args.ws.now = within _ _ _ _ c.loop-h.invariant.1.at c.loop-h-test.true in it) in omega (arith, c.arena_width-width.ensures)
+
+pub overflow_add-to : goal.overflow_add-to
+overflow_add-to c = let f = (let it : c.loop-h.from + c.arena_width-width.result < 18446744073709551616 = let r = (let it : c.loop-h.from + c.arena_width-width.result ≤ length c.args.ws.now = within _ _ _ _ c.loop-h.invariant.1.at c.loop-h-test.true in it) in omega arith in it) in omega arith
+
+pub overflow_add-from : goal.overflow_add-from
+overflow_add-from c = let f = (let it : c.loop-h.from + c.arena_width-width.result < 18446744073709551616 = let r = (let it : c.loop-h.from + c.arena_width-width.result ≤ length c.args.ws.now = within _ _ _ _ c.loop-h.invariant.1.at c.loop-h-test.true in it) in omega arith in it) in omega arith
+
+pub overflow_add-h : goal.overflow_add-h
+overflow_add-h c = let d = div-le_self (length c.args.ws.now) c.arena_width-width.result in omega arith
+
+pub loop-h-preserved : goal.loop-h-preserved
+loop-h-preserved c =
+    let l = c.loop-h in
+    let m = c in
+    let wide = m.arena_width-width.ensures in
+    let mine = m.map_of-own.ensures ∙ ap (map_of _) m.arena_at.ensures in
+    let kept = sym c.kept_at.ensures in (
+      search rules,
+      ⊎_elim
+          (λ w. record-kept _ _ _ _ wide _ mine _ _ _ _ _ (omega arith) l.invariant.1 _ _ _ _ (kept ∙ w.0.taken) w.2.ensures (w.8 ∙ w.4.ensures) (w.9 ∙ w.7.ensures) w.10)
+          (λ w. record-dropped _ _ _ _ wide _ mine _ _ _ _ _ (omega arith) l.invariant.1 _ _ _ (kept ∙ w.0.left) w.1 w.2 w.3)
+          c.if-kept_at.branch,
+    )
+
+pub returns : goal.returns
+returns c =
+    let l = c.loop-h in
+    rewritten _ _ _ _ _ _ _ _ _ _ c.arena_width-width.ensures (omega arith) l.invariant.1 c.free_records.ensures

@@ -1,0 +1,23 @@
+-- `adjust::adjust_arena` meets its contract: after h turns the pass stands as `Rewriting` says.
+-- Assumes nothing.
+use mathlib.Core.Path.{sym, ap, ◌∙◌}
+use mathlib.Core.Logic.{⊎_elim}
+use Prim.Native.Nat.{◌+◌, ◌-◌, ◌≤◌, ◌<◌}
+use native.Mathlib.Nat.{div-le_self}
+use native.Mathlib.Omega.{arith}
+use lib.ListN.{length}
+use Rattle.definitions.specs.Areas.{numbered}
+use Rattle.definitions.specs.Outcome.{map_of}
+use Rattle.definitions.proofs.Reading.{width-pos}
+use Rattle.arena.specs.Lent.{maps_of}
+use Rattle.adjust.proofs.Passes.{Rewriting, rewriting, within, record-dropped, record-kept, rewritten}
+use borrow.Author.Rules.{rules}
+use Rattle.adjust.proofs.adjust_arena.Given as goal
+
+abbrev pub invariant-loop-h : goal.invariant-loop-h
+invariant-loop-h l =
+    (l.h ≤ l.n) × Rewriting (maps_of l.type_map l.constant_map l.override_map l.global_map l.expression_map) (numbered l.area) l.initial.ws l.width l.ws l.start l.from l.to l.h
+
+abbrev pub decreases-loop-h : goal.decreases-loop-h
+decreases-loop-h l =
+    l.n - l.h

@@ -1,0 +1,31 @@
+-- `adjust::adjust_record` meets its contract: after k turns k words of the record are stored, and `rest` has the slots of those left.
+-- Assumes nothing.
+use mathlib.Core.Path.{◌≡◌, sym, ap, ap₂, ◌∙◌}
+use mathlib.Core.List.{◌∷◌}
+use Prim.Native.Nat.{ℕ, suc, ◌+◌, ◌-◌, ◌/◌, ◌%◌, ◌≤◌, ◌<◌}
+use native.Mathlib.Nat.{sub-zero}
+use native.Mathlib.Numerals.{add-one}
+use native.Mathlib.Omega.{arith}
+use lib.ListN.{get_or, set}
+use lib.Seq.{sets}
+use Rattle.definitions.specs.Areas.{Words}
+use Rattle.definitions.specs.Slots.{Slot}
+use Rattle.definitions.specs.Outcome.{Maps}
+use Rattle.slots.specs.Codes.{decoded, unpacked, words_from}
+use Rattle.arena.specs.Lent.{maps_of}
+use Rattle.adjust.specs.Rewrite.{adjusted_by, record_from}
+use Rattle.adjust.proofs.Stores.{Storing, none-stored, one-stored, all-stored}
+use borrow.Author.Rules.{rules}
+use Rattle.adjust.proofs.adjust_record.Invariants.{at-start, turn, at-end}
+use Rattle.adjust.proofs.adjust_record.Goals as goal
+
+pub loop-k-init : goal.loop-k-init
+loop-k-init c = (search rules, at-start _ _ _ _ _ _ _)
+
+pub loop-k-preserved : goal.loop-k-preserved
+loop-k-preserved c =
+    let l = c.loop-k in
+    (search rules, turn _ _ _ _ _ _ _ _ _ _ (omega arith) (omega arith) c.first.ensures c.adjust_slot.ensures l.invariant.1)
+
+pub returns : goal.returns
+returns c = let l = c.loop-k in at-end _ _ _ _ _ _ _ _ _ _ (omega arith) l.invariant.1

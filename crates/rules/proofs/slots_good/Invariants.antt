@@ -1,0 +1,21 @@
+-- `rules::slots_good` meets its contract. The loop's invariant: all words are good just where all that are left are.
+-- Assumes nothing.
+use mathlib.Core.Path.{◌≡◌, refl, sym, ap, ◌∙◌}
+use Prim.Native.Nat.{◌-◌}
+use native.Mathlib.Nat.{sub-zero}
+use native.Mathlib.Omega.{arith}
+use borrow.Author.Rules.{rules}
+use borrow.Author.Tests.{not-true, not-false}
+use Rattle.definitions.specs.Refusals.{every}
+use Rattle.arena.specs.Lent.{areas_in}
+use Rattle.slots.specs.Codes.{unpacked, words_from}
+use Rattle.rules.specs.Rules.{empty, good_by}
+use Rattle.rules.proofs.Every.{turn, done, same-unused}
+use Rattle.rules.proofs.slots_good.Given as goal
+
+abbrev pub invariant-loop-k : goal.invariant-loop-k
+invariant-loop-k l =
+    every (good_by (areas_in l.m) l.l) (words_from l.ws l.at) l.k (unpacked l.rest (l.n - l.k)) ≡ every (good_by (areas_in l.m) l.l) (words_from l.ws l.at) 0 (unpacked l.shape l.n)
+
+abbrev pub decreases-loop-k : goal.decreases-loop-k
+decreases-loop-k l = l.n - l.k

@@ -1,0 +1,12 @@
+-- `trace::mark_override` meets its contract.
+-- Assumes nothing.
+use Rattle.arena.specs.Lent.{areas_in}
+use Rattle.trace.proofs.Behind.{marked-one, behind-override}
+use borrow.Author.Rules.{rules}
+use Rattle.trace.proofs.mark_override.Goals as goal
+
+pub returns : goal.returns
+returns c =
+    let a = c.args in
+    let s = areas_in a.m.now in
+    marked-one s a.b _ _ (behind-override s _ c.ty.ensures c.init.ensures) c.insert.ensures c.mark_both.ensures

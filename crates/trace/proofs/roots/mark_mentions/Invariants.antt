@@ -1,0 +1,28 @@
+-- `trace::roots::mark_mentions` meets its contract. The loop's invariant: what the mentions from i on name is left to mark.
+-- Assumes nothing.
+use mathlib.Core.Path.{◌≡◌, sym, ap, ap₂, ◌∙◌}
+use mathlib.Core.List.{List, [], ◌∷◌, map}
+use Prim.Native.Nat.{ℕ, ◌+◌, ◌-◌, ◌≤◌, ◌<◌}
+use native.Mathlib.Nat.{sub-zero}
+use Rattle.definitions.specs.Lists.{count_up}
+use Rattle.definitions.specs.Areas.{Areas, Arena, Elem, at, numbered, mention_word}
+use Rattle.definitions.specs.Roots.{mention}
+use Rattle.arena.specs.Lent.{areas_in}
+use Rattle.trace.specs.Bits.{bits_of}
+use Rattle.trace.proofs.Sets.{Left}
+use Rattle.trace.proofs.Behind.{marked-as, marked_turn, marked-done}
+use Rattle.trace.proofs.Counting.{count_turn, count-done}
+use borrow.Author.Rules.{rules}
+use Rattle.trace.proofs.roots.mark_mentions.Given as goal
+
+-- what the mentions from i up to n name
+abbrev pub from : Areas → ℕ → ℕ → List Elem
+from s n i = map (mention s) (count_up i (n - i))
+
+abbrev pub invariant-loop-i : goal.invariant-loop-i
+invariant-loop-i l =
+    let s = areas_in l.m in
+    (l.i ≤ l.n) × Left (bits_of s l.b (from s l.n 0)) l.initial.marks (bits_of s l.b (from s l.n l.i)) l.marks
+
+abbrev pub decreases-loop-i : goal.decreases-loop-i
+decreases-loop-i l = l.n - l.i

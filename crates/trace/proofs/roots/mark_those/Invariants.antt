@@ -1,0 +1,30 @@
+-- `trace::roots::mark_those` meets its contract. The loop's invariant: the roots from i on are left to mark.
+-- Assumes nothing.
+use mathlib.Core.Path.{◌≡◌, sym, ap, subst, ◌∙◌}
+use mathlib.Core.Bool.{Bool, true, false, cond}
+use mathlib.Core.Logic.{⊎_elim}
+use mathlib.Core.List.{List, [], ◌∷◌, map}
+use Prim.Native.Nat.{ℕ, ◌+◌, ◌-◌, ◌≤◌, ◌<◌}
+use native.Mathlib.Nat.{sub-zero}
+use Rattle.definitions.specs.Lists.{count_up, select}
+use Rattle.definitions.specs.Areas.{Areas, Arena, Elem, at, numbered}
+use Rattle.arena.specs.declared.handle_set.Bases.{Bases}
+use Rattle.arena.specs.Lent.{areas_in}
+use Rattle.trace.specs.Bits.{bits_of, Marked, root_in, those_in}
+use Rattle.trace.proofs.Sets.{Left}
+use Rattle.trace.proofs.Behind.{marked-as, marked-none, marked_turn, marked-done}
+use Rattle.trace.proofs.Counting.{count_turn, count-done}
+use borrow.Author.Rules.{rules}
+use Rattle.trace.proofs.roots.mark_those.Given as goal
+
+-- the roots from i up to n
+abbrev pub from : Areas → Arena → ℕ → ℕ → List Elem
+from s a n i = map (at a) (select (root_in s a) (count_up i (n - i)))
+
+abbrev pub invariant-loop-i : goal.invariant-loop-i
+invariant-loop-i l =
+    let s = areas_in l.m in
+    (l.i ≤ l.n) × Left (bits_of s l.b (from s (numbered l.area) l.n 0)) l.initial.marks (bits_of s l.b (from s (numbered l.area) l.n l.i)) l.marks
+
+abbrev pub decreases-loop-i : goal.decreases-loop-i
+decreases-loop-i l = l.n - l.i

@@ -1,0 +1,17 @@
+-- `trace::trace_expression` meets its contract.
+-- Assumes nothing.
+use mathlib.Core.Path.{sym, ◌∙◌}
+use Rattle.definitions.specs.Areas.{at, expressions, numbered}
+use Rattle.arena.specs.Lent.{areas_in}
+use Rattle.trace.proofs.Visit.{visit-unmarked}
+use borrow.Author.Rules.{rules}
+use Rattle.trace.proofs.trace_expression.Goals as goal
+
+pub returns-then-contains : goal.returns-then-contains
+unfolding numbered
+returns-then-contains c = c.trace.ensures
+
+pub returns-else-contains : goal.returns-else-contains
+returns-else-contains c =
+    let a = c.args in
+    visit-unmarked (areas_in a.m.now) a.b (at expressions a.h.0) (sym c.if-contains.false ∙ c.contains.ensures)

@@ -1,0 +1,40 @@
+-- `trace::trace_run` meets its contract. The loop's invariant: the handles that are left are left to put in.
+-- Assumes nothing.
+use mathlib.Core.Path.{◌≡◌, sym, ap, ap₂, ◌∙◌}
+use mathlib.Core.List.{List, [], ◌∷◌, map}
+use Prim.Native.Nat.{ℕ, ◌+◌, ◌-◌, ◌≤◌, ◌<◌}
+use native.Mathlib.Numerals.{add-one}
+use lib.ListN.{length, get_or, drop, drop_of_length-le}
+use lib.Seq.{drop-cons}
+use Rattle.definitions.specs.Areas.{Arena, Elem, at, numbered}
+use Rattle.arena.specs.HandleSet.{bit}
+use Rattle.arena.specs.declared.handle_set.Bases.{Bases}
+use Rattle.trace.proofs.Sets.{Left, put_one, left-turn, left-done}
+use borrow.Author.Rules.{rules}
+use Rattle.trace.proofs.trace_run.Invariants.{from}
+use Rattle.trace.proofs.trace_run.Goals as goal
+
+turn : (b : Bases) (area : ℕ) (run : List ℕ) (i : ℕ) {g : Arena} {x : Elem} → i < length run → g ≡ numbered area → x ≡ at g (get_or run i 0)
+    → from b area run i ≡ bit b x ∷ from b area run (i + 1)
+turn b area run i h p q =
+    ap (λ r. map (bit b) (map (at (numbered area)) r)) (drop-cons run i 0 h)
+    ∙ ap₂ (λ y n. bit b y ∷ from b area run n) (sym (q ∙ ap (λ a. at a (get_or run i 0)) p)) (sym (add-one i))
+
+done : (b : Bases) (area : ℕ) (run : List ℕ) (i : ℕ) → length run ≤ i → from b area run i ≡ []
+done b area run i h = ap (λ r. map (bit b) (map (at (numbered area)) r)) (drop_of_length-le run h)
+
+pub loop-i-init : goal.loop-i-init
+loop-i-init c = (search rules, λ u p. p)
+
+pub loop-i-preserved : goal.loop-i-preserved
+loop-i-preserved c =
+    let a = c.args in
+    let l = c.loop-i in
+    let x = turn a.b a.area a.run.now l.i c.loop-i-test.true c.arena_at.ensures c.element.ensures in
+    (search rules, left-turn _ _ (_ ∷ []) _ x (put_one c.insert.ensures) l.invariant.1)
+
+pub returns : goal.returns
+returns c =
+    let a = c.args in
+    let l = c.loop-i in
+    left-done _ _ (done a.b a.area a.run.now l.i c.loop-i-test.false) l.invariant.1

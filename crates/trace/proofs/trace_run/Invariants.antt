@@ -1,0 +1,24 @@
+-- `trace::trace_run` meets its contract. The loop's invariant: the handles that are left are left to put in.
+-- Assumes nothing.
+use mathlib.Core.Path.{◌≡◌, sym, ap, ap₂, ◌∙◌}
+use mathlib.Core.List.{List, [], ◌∷◌, map}
+use Prim.Native.Nat.{ℕ, ◌+◌, ◌-◌, ◌≤◌, ◌<◌}
+use native.Mathlib.Numerals.{add-one}
+use lib.ListN.{length, get_or, drop, drop_of_length-le}
+use lib.Seq.{drop-cons}
+use Rattle.definitions.specs.Areas.{Arena, Elem, at, numbered}
+use Rattle.arena.specs.HandleSet.{bit}
+use Rattle.arena.specs.declared.handle_set.Bases.{Bases}
+use Rattle.trace.proofs.Sets.{Left, put_one, left-turn, left-done}
+use borrow.Author.Rules.{rules}
+use Rattle.trace.proofs.trace_run.Given as goal
+
+-- the bits of the handles from i on
+abbrev pub from : Bases → ℕ → List ℕ → ℕ → List ℕ
+from b area run i = map (bit b) (map (at (numbered area)) (drop i run))
+
+abbrev pub invariant-loop-i : goal.invariant-loop-i
+invariant-loop-i l = (l.i ≤ length l.run) × Left (from l.b l.area l.run 0) l.initial.marks (from l.b l.area l.run l.i) l.marks
+
+abbrev pub decreases-loop-i : goal.decreases-loop-i
+decreases-loop-i l = length l.run - l.i

@@ -1,0 +1,26 @@
+-- `trace::trace_slots` meets its contract. The loop's invariant: what the slots that are left name is left to mark.
+-- Assumes nothing.
+use mathlib.Core.Path.{◌≡◌, sym, ap, ◌∙◌}
+use mathlib.Core.List.{[], ◌++◌}
+use Prim.Native.Nat.{ℕ, suc, ◌+◌, ◌-◌, ◌/◌, ◌%◌, ◌≤◌, ◌<◌}
+use native.Mathlib.Numerals.{add-one}
+use native.Mathlib.Omega.{arith}
+use borrow.Author.Tests.{eqb-true, not-false}
+use Rattle.definitions.specs.References.{named_by, named_from}
+use Rattle.slots.specs.Codes.{decoded, unpacked, words_from}
+use Rattle.arena.specs.Lent.{areas_in}
+use Rattle.slots.proofs.Laws.{named_none}
+use Rattle.trace.specs.Bits.{bits_of}
+use Rattle.trace.proofs.Sets.{Left}
+use Rattle.trace.proofs.Behind.{marked_turn, marked-done}
+use borrow.Author.Rules.{rules}
+use Rattle.trace.proofs.trace_slots.Given as goal
+
+abbrev pub invariant-loop-k : goal.invariant-loop-k
+invariant-loop-k l =
+    let s = areas_in l.m in
+    let f = words_from l.ws l.at in
+    (l.k ≤ 10) × Left (bits_of s l.b (named_from f 0 (unpacked l.shape 10))) l.initial.marks (bits_of s l.b (named_from f l.k (unpacked l.rest (10 - l.k)))) l.marks
+
+abbrev pub decreases-loop-k : goal.decreases-loop-k
+decreases-loop-k l = 10 - l.k
