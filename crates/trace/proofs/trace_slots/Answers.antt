@@ -51,7 +51,7 @@ returns-else-rest-ne0 c =
     let l = c.loop-k in
     let s = areas_in a.m.now in
     let f = words_from a.ws.now a.at in
-    marked-done s a.b _ _ (none_left f l.rest l.k (eqb-true _ _ (not-false _ c.if-rest-ne0.false))) l.invariant.1
+    marked-done s a.b _ _ (none_left f l.rest l.k c.if-rest-ne0.false) l.invariant.1
 
 pub returns-after-loop-k : goal.returns-after-loop-k
 returns-after-loop-k c =

@@ -17,6 +17,7 @@ use Rattle.trace.proofs.Counting.{count_turn, count-done}
 use borrow.Author.Rules.{rules}
 use Rattle.trace.proofs.roots.mark_those.Invariants.{from}
 use Rattle.trace.proofs.roots.mark_those.Goals as goal
+use Rattle.trace.proofs.roots.mark_those.Goals.{then-is_root, else-is_root}
 
 module _ (s : Areas) (a : Arena) (n i : ℕ) where
   abbrev rest : List ℕ
@@ -57,10 +58,12 @@ loop-i-preserved c =
     let t = c.loop-i-test.true in
     let r = c.is_root.ensures in (
       search rules,
-      ⊎_elim
-          (λ w. marked s g a.n l.i a.b all t r l.invariant.1 w.0.taken (w.3.ensures ∙ ap (λ g. at g l.i) w.2.ensures) w.4.ensures w.7)
-          (λ w. passed s g a.n l.i a.b all t r l.invariant.1 w.0.left w.1)
-          c.if-is_root.branch,
+      elim c.if-is_root.branch [
+        | then-is_root w ↦
+            marked s g a.n l.i a.b all t r l.invariant.1 w.if-is_root.true
+            (w.element.ensures ∙ ap (λ g. at g l.i) w.arena_at.ensures) w.mark.ensures w.marks-is
+        | else-is_root w ↦ passed s g a.n l.i a.b all t r l.invariant.1 w.if-is_root.false w.marks-is
+      ],
     )
 
 pub returns : goal.returns
