@@ -13,9 +13,10 @@ use Rattle.arena.specs.Lent.{maps_of}
 use Rattle.adjust.proofs.Passes.{Rewriting, rewriting, within, record-dropped, record-kept, rewritten}
 use borrow.Author.Rules.{rules}
 use Rattle.adjust.proofs.adjust_arena.Goals as goal
+use Rattle.adjust.proofs.adjust_arena.Goals.{then-kept_at, else-kept_at}
 
--- ?? div-n : tie.Need-nonzero-div-n invariant-loop decreases-loop
--- div-n c = let w = (let it : 0 < c.before.before.arena-width.result = let w = width-pos (numbered c.before.before.before.before.before.before.before.before.before.args.area) in omega (arith, c.before.before.arena-width.ensures) in it) in omega arith
+pub nonzero_div-n : goal.nonzero_div-n
+nonzero_div-n c = let w = width-pos (numbered c.args.area) in omega (arith, c.arena_width-width.ensures)
 
 pub loop-h-init : goal.loop-h-init
 loop-h-init c = (search rules, rewriting _ _ _ _)
@@ -23,27 +24,23 @@ loop-h-init c = (search rules, rewriting _ _ _ _)
 pub adjust_kept-requires : goal.adjust_kept-requires
 adjust_kept-requires c = let r = (let it : c.loop-h.from + c.arena_width-width.result ≤ length c.args.ws.now = within _ _ _ _ c.loop-h.invariant.1.at c.loop-h-test.true in it) in omega (arith, c.arena_width-width.ensures)
 
-pub overflow_add-to : goal.overflow_add-to
-overflow_add-to c = let f = (let it : c.loop-h.from + c.arena_width-width.result < 18446744073709551616 = let r = (let it : c.loop-h.from + c.arena_width-width.result ≤ length c.args.ws.now = within _ _ _ _ c.loop-h.invariant.1.at c.loop-h-test.true in it) in omega arith in it) in omega arith
-
-pub overflow_add-from : goal.overflow_add-from
-overflow_add-from c = let f = (let it : c.loop-h.from + c.arena_width-width.result < 18446744073709551616 = let r = (let it : c.loop-h.from + c.arena_width-width.result ≤ length c.args.ws.now = within _ _ _ _ c.loop-h.invariant.1.at c.loop-h-test.true in it) in omega arith in it) in omega arith
-
 pub overflow_add-h : goal.overflow_add-h
 overflow_add-h c = let d = div-le_self (length c.args.ws.now) c.arena_width-width.result in omega arith
 
 pub loop-h-preserved : goal.loop-h-preserved
 loop-h-preserved c =
     let l = c.loop-h in
-    let m = c in
-    let wide = m.arena_width-width.ensures in
-    let mine = m.map_of-own.ensures ∙ ap (map_of _) m.arena_at.ensures in
+    let wide = c.arena_width-width.ensures in
+    let mine = c.map_of-own.ensures ∙ ap (map_of _) c.arena_at.ensures in
     let kept = sym c.kept_at.ensures in (
       search rules,
-      ⊎_elim
-          (λ w. record-kept _ _ _ _ wide _ mine _ _ _ _ _ (omega arith) l.invariant.1 _ _ _ _ (kept ∙ w.0.taken) w.2.ensures (w.8 ∙ w.4.ensures) (w.9 ∙ w.7.ensures) w.10)
-          (λ w. record-dropped _ _ _ _ wide _ mine _ _ _ _ _ (omega arith) l.invariant.1 _ _ _ (kept ∙ w.0.left) w.1 w.2 w.3)
-          c.if-kept_at.branch,
+      elim c.if-kept_at.branch [
+        | then-kept_at w ↦
+            record-kept _ _ _ _ wide _ mine _ _ _ _ _ (omega arith) l.invariant.1 _ _ _ _ (kept ∙ w.if-kept_at.true) w.span-span.ensures
+            (w.ws-is ∙ w.adjust_kept.ensures) (w.start-is ∙ w.capped-start.ensures) w.to-is
+        | else-kept_at w ↦
+            record-dropped _ _ _ _ wide _ mine _ _ _ _ _ (omega arith) l.invariant.1 _ _ _ (kept ∙ w.if-kept_at.false) w.ws-is w.start-is w.to-is
+      ],
     )
 
 pub returns : goal.returns

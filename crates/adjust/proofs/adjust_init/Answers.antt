@@ -10,6 +10,7 @@ use Rattle.definitions.specs.Areas.{Words, N}
 use Rattle.definitions.specs.MapEntries.{lookup}
 use Rattle.adjust.specs.Rewrite.{init_by}
 use Rattle.adjust.proofs.adjust_init.Goals as goal
+use Rattle.adjust.proofs.adjust_init.Goals.{then-init-eq-N+else-not-must, else-init-eq-N}
 
 -- N stays where it may be there
 absent : (due : Bool) (own : Words) (w : ℕ) → w ≡ N → due ≡ false → w ≡ init_by due own w
@@ -33,4 +34,8 @@ returns-then-not-must c = absent c.args.must c.args.expression_map.now c.args.in
 pub returns : goal.returns
 returns c =
     let a = c.args in
-    c.expression_after.ensures ∙ ⊎_elim (λ w. due-there a.must a.expression_map.now a.init.0 (not-false _ w.1.left)) (λ w. present a.must a.expression_map.now a.init.0 w.left) c.if-init-eq-N.branch
+    c.expression_after.ensures
+    ∙ elim c.if-init-eq-N.branch [
+        | then-init-eq-N+else-not-must w ↦ due-there a.must a.expression_map.now a.init.0 w.if-not-must.false
+        | else-init-eq-N w ↦ present a.must a.expression_map.now a.init.0 w.if-init-eq-N.false
+      ]

@@ -1,0 +1,53 @@
+-- `tandem::type_expression_tandem` meets its contract. The loop's invariant: what is left of the visits makes the whole.
+-- Assumes nothing.
+use mathlib.Core.Path.{◌≡◌, sym, ◌∙◌}
+use mathlib.Core.Logic.{⊎_elim, inl, inr}
+use Prim.Native.Nat.{ℕ, ◌+◌, ◌<◌}
+use native.Mathlib.Omega.{arith}
+use lib.ListN.{length-replicate}
+use borrow.Author.Rules.{rules}
+use borrow.Author.Tests.{ltb-true, ltb-false}
+use Rattle.arena.specs.Lent.{areas_in}
+use Rattle.tandem.specs.Deps.{Held}
+use Rattle.tandem.proofs.Turns.{Turns, at-start, one-visit, at-end}
+use Rattle.tandem.proofs.type_expression_tandem.Goals as goal
+
+pub fill_starts-requires : goal.fill_starts-requires
+fill_starts-requires c = length-replicate {A = ℕ} 256 0
+
+pub loop-n-init : goal.loop-n-init
+loop-n-init c = (at-start _ _ _ _ _, (length-replicate {A = ℕ} 256 0, λ h. absurd (omega arith)))
+
+pub dep_before-dep-requires : goal.dep_before-dep-requires
+dep_before-dep-requires c =
+    let l = c.loop-n in
+    (c.fill_starts.ensures, l.invariant.0.fewer, l.invariant.1)
+
+pub visit-rest-requires : goal.visit-rest-requires
+visit-rest-requires c =
+    let r = c.loop-n.rest in
+    let p : 0 < r.types + r.expressions =
+    ⊎_elim (λ w. omega arith) (λ w. omega (arith, ltb-true 0 r.expressions (sym w.2 ∙ c.if-rest-gt0-2.true)))
+    c.if-rest-gt0.branch in
+    (c.dep_before-dep.ensures.0, p)
+
+pub loop-n-preserved : goal.loop-n-preserved
+loop-n-preserved c =
+    let l = c.loop-n in
+    let t = c.loop-n-test.true in
+    (one-visit _ _ t c.visit-rest.ensures l.invariant.0, c.dep_before-dep.ensures.1)
+
+pub returns-else-rest-gt0-2 : goal.returns-else-rest-gt0-2
+returns-else-rest-gt0-2 c =
+    let l = c.loop-n in
+    let z : l.rest.types + l.rest.expressions ≡ 0 =
+    ⊎_elim (λ w. omega (arith, ltb-false 0 l.rest.types (sym w.1 ∙ c.if-rest-gt0-2.false)))
+    (λ w. omega (arith, ltb-false 0 l.rest.expressions (sym w.2 ∙ c.if-rest-gt0-2.false)))
+    c.if-rest-gt0.branch in
+    at-end _ _ (inr z) l.invariant.0
+
+pub returns-after-loop-n : goal.returns-after-loop-n
+returns-after-loop-n c =
+    let l = c.loop-n in
+    let z : l.n ≡ 0 = omega arith in
+    at-end _ _ (inl z) l.invariant.0

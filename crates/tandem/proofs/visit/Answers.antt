@@ -1,0 +1,28 @@
+-- `tandem::visit` meets its contract: the youngest expression is visited where it is above dep, else the youngest type.
+-- Assumes nothing.
+use borrow.Author.Rules.{rules}
+use Rattle.arena.specs.Lent.{areas_in}
+use Rattle.tandem.proofs.Turns.{some-type, visit-expression, visit-type}
+use Rattle.tandem.proofs.visit.Goals as goal
+
+pub returns-then-dep-rest : goal.returns-then-dep-rest
+returns-then-dep-rest c =
+    let o = c in
+    let a = o.args in
+    let s = areas_in a.m.now in
+    visit-expression s a.b a.rest.types a.rest.expressions o.requires.0 c.if-dep-rest.true
+    c.trace_expression.ensures
+
+pub overflow_sub-t : goal.overflow_sub-t
+overflow_sub-t c =
+    let o = c in
+    let a = o.args in
+    some-type (areas_in a.m.now) a.rest.types a.rest.expressions o.requires.0 c.if-dep-rest.false o.requires.1
+
+pub returns : goal.returns
+returns c =
+    let o = c in
+    let a = o.args in
+    let s = areas_in a.m.now in
+    visit-type s a.b a.rest.types a.rest.expressions o.requires.0 c.if-dep-rest.false o.requires.1
+    c.trace_type.ensures
