@@ -26,9 +26,7 @@ dep_before-dep-requires c =
 pub visit-rest-requires : goal.visit-rest-requires
 visit-rest-requires c =
     let r = c.loop-n.rest in
-    let p : 0 < r.types + r.expressions =
-    ⊎_elim (λ w. omega arith) (λ w. omega (arith, ltb-true 0 r.expressions (sym w.2 ∙ c.if-rest-gt0-2.true)))
-    c.if-rest-gt0.branch in
+    let p : 0 < r.types + r.expressions = ⊎_elim (λ h. omega arith) (λ h. omega arith) c.if-rest-gt0-2.either in
     (c.dep_before-dep.ensures.0, p)
 
 pub loop-n-preserved : goal.loop-n-preserved
@@ -40,10 +38,7 @@ loop-n-preserved c =
 pub returns-else-rest-gt0-2 : goal.returns-else-rest-gt0-2
 returns-else-rest-gt0-2 c =
     let l = c.loop-n in
-    let z : l.rest.types + l.rest.expressions ≡ 0 =
-    ⊎_elim (λ w. omega (arith, ltb-false 0 l.rest.types (sym w.1 ∙ c.if-rest-gt0-2.false)))
-    (λ w. omega (arith, ltb-false 0 l.rest.expressions (sym w.2 ∙ c.if-rest-gt0-2.false)))
-    c.if-rest-gt0.branch in
+    let z : l.rest.types + l.rest.expressions ≡ 0 = omega arith in
     at-end _ _ (inr z) l.invariant.0
 
 pub returns-after-loop-n : goal.returns-after-loop-n

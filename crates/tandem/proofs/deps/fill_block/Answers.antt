@@ -10,6 +10,7 @@ use Rattle.arena.specs.Lent.{areas_in}
 use Rattle.tandem.specs.Deps.{dep_before}
 use Rattle.tandem.proofs.Filling.{dep-more, Filled, none_filled, filled_more, all-filled}
 use Rattle.tandem.proofs.deps.fill_block.Goals as goal
+use Rattle.tandem.proofs.deps.fill_block.Goals.{then-k-lt256, else-k-lt256}
 
 pub deepest-deep-requires : goal.deepest-deep-requires
 unfolding dep_before
@@ -21,7 +22,10 @@ loop-j-init c =
     let p = c.requires in
     let s = areas_in a.m.now in
     let d : c.if-k-lt256.deep ≡ dep_before s (a.k * 256) =
-    ⊎_elim (λ w. w.2 ∙ p.0.entry a.k (w.0.taken, p.1)) (λ w. w.2 ∙ w.1.ensures) c.if-k-lt256.branch in
+    elim c.if-k-lt256.branch [
+      | then-k-lt256 w ↦ w.deep-is ∙ p.0.entry a.k (w.if-k-lt256.true, p.1)
+      | else-k-lt256 w ↦ w.deep-is ∙ w.deepest-deep.ensures
+    ] in
     let z : a.k * 256 ≡ a.k * 256 + 0 = omega arith in
     (search rules, d ∙ ap (dep_before s) z, none_filled _ _ p.2)
 

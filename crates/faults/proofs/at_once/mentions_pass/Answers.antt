@@ -1,0 +1,30 @@
+-- `at_once::mentions_pass` meets its contract. The loop carries that all mentions so far are good.
+-- Assumes nothing.
+use Prim.Native.Nat.{ℕ, ◌-◌, ◌<◌}
+use native.Mathlib.Nat.{not-suc-le-zero}
+use native.Mathlib.Omega.{arith}
+use borrow.Author.Rules.{rules}
+use borrow.Author.Tests.{lt-ltb}
+use Rattle.definitions.specs.Areas.{Areas}
+use Rattle.arena.specs.Lent.{areas_in}
+use Rattle.faults.proofs.AtOnce.{not-both, MentionGood, mention-on, mentions-passed}
+use Rattle.faults.proofs.at_once.mentions_pass.Goals as goal
+
+pub loop-i-init : goal.loop-i-init
+loop-i-init c = λ j l. absurd (not-suc-le-zero l)
+
+pub returns-then-area-ge-ARENAS : goal.returns-then-area-ge-ARENAS
+returns-then-area-ge-ARENAS c e = absurd (not-both e)
+
+pub returns-then-own_size-handle : goal.returns-then-own_size-handle
+returns-then-own_size-handle c e = absurd (not-both e)
+
+pub overflow_add-i : goal.overflow_add-i
+overflow_add-i c = omega arith
+
+pub loop-i-preserved : goal.loop-i-preserved
+loop-i-preserved c =
+    mention-on ((areas_in c.args.m.now)) c.loop-i.i c.loop-i.invariant c.area-area.ensures c.handle.ensures c.requires.1 c.own_size.ensures (lt-ltb _ 5 c.if-area-ge-ARENAS.false) (lt-ltb _ _ c.if-own_size-handle.false)
+
+pub returns : goal.returns
+returns c e = mentions-passed ((areas_in c.args.m.now)) c.loop-i.i c.requires.1 c.loop-i-test.false c.loop-i.invariant

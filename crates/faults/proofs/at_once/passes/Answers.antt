@@ -1,0 +1,45 @@
+-- `at_once::passes` meets its contract. The loop carries that all arenas so far pass.
+-- Assumes nothing.
+use mathlib.Core.Path.{◌≡◌, subst, sym}
+use Prim.Native.Nat.{ℕ, ◌+◌, ◌-◌, ◌<◌}
+use native.Mathlib.Decide.{ℕ_discrete}
+use native.Mathlib.Nat.{not-suc-le-zero}
+use native.Mathlib.Omega.{arith}
+use borrow.Author.Rules.{rules}
+use borrow.Author.Tests.{not-false}
+use Rattle.definitions.specs.Areas.{Areas, numbered}
+use Rattle.arena.specs.Lent.{areas_in}
+use Rattle.arena.specs.Sizes.{sizes_of}
+use Rattle.faults.specs.Checking.{Passed, Used}
+use Rattle.faults.proofs.Arenas.{sizes-are}
+use Rattle.faults.proofs.AtOnce.{not-both, no-fault}
+use Rattle.faults.proofs.at_once.passes.Invariants.{Arenas}
+use Rattle.faults.proofs.at_once.passes.Goals as goal
+
+-- and one more
+more : (s : Areas) (n : ℕ) → Arenas s n → Passed s n × Used s (numbered n) → Arenas s (n + 1)
+more s n f h a l = elim (ℕ_discrete a n) [
+  | yes e ↦ subst (λ a. Passed s a × Used s (numbered a)) (sym e) h
+  | no e ↦ f a (omega arith)
+]
+
+pub loop-area-init : goal.loop-area-init
+loop-area-init c = λ a l. absurd (not-suc-le-zero l)
+
+pub arena_passes-requires : goal.arena_passes-requires
+arena_passes-requires c = (c.loop-area-test.true, (c.requires, (let it : c.of-z.result ≡ sizes_of ((areas_in c.args.m.now)) = let d = c in sizes-are ((areas_in d.args.m.now)) d.requires c.of-z.ensures in it)))
+
+pub returns-then-not-arena_passes : goal.returns-then-not-arena_passes
+returns-then-not-arena_passes c e = absurd (not-both e)
+
+pub overflow_add-area : goal.overflow_add-area
+overflow_add-area c = omega arith
+
+pub loop-area-preserved : goal.loop-area-preserved
+loop-area-preserved c = more ((areas_in c.args.m.now)) c.loop-area.area c.loop-area.invariant (c.arena_passes.ensures c.if-not-arena_passes.false)
+
+pub mentions_pass-requires : goal.mentions_pass-requires
+mentions_pass-requires c = (c.requires, (let it : c.of-z.result ≡ sizes_of ((areas_in c.args.m.now)) = let d = c in sizes-are ((areas_in d.args.m.now)) d.requires c.of-z.ensures in it))
+
+pub returns : goal.returns
+returns c e = no-fault ((areas_in c.args.m.now)) (λ a l. c.loop-area.invariant a (omega arith)) (c.mentions_pass.ensures e)

@@ -1,0 +1,26 @@
+-- `at_once::passes` meets its contract. The loop carries that all arenas so far pass.
+-- Assumes nothing.
+use mathlib.Core.Path.{◌≡◌, subst, sym}
+use Prim.Native.Nat.{ℕ, ◌+◌, ◌-◌, ◌<◌}
+use native.Mathlib.Decide.{ℕ_discrete}
+use native.Mathlib.Nat.{not-suc-le-zero}
+use native.Mathlib.Omega.{arith}
+use borrow.Author.Rules.{rules}
+use borrow.Author.Tests.{not-false}
+use Rattle.definitions.specs.Areas.{Areas, numbered}
+use Rattle.arena.specs.Lent.{areas_in}
+use Rattle.arena.specs.Sizes.{sizes_of}
+use Rattle.faults.specs.Checking.{Passed, Used}
+use Rattle.faults.proofs.Arenas.{sizes-are}
+use Rattle.faults.proofs.AtOnce.{not-both, no-fault}
+use Rattle.faults.proofs.at_once.passes.Given as goal
+
+-- the first n arenas pass
+abbrev pub Arenas : Areas → ℕ → Type 0
+Arenas s n = (a : ℕ) → a < n → Passed s a × Used s (numbered a)
+
+abbrev pub invariant-loop-area : goal.invariant-loop-area
+invariant-loop-area l = Arenas (areas_in l.m) l.area
+
+abbrev pub decreases-loop-area : goal.decreases-loop-area
+decreases-loop-area l = 5 - l.area

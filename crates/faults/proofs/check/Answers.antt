@@ -1,0 +1,9 @@
+-- `check` meets its contract: it judges the module and the lengths that it was given.
+-- Assumes nothing.
+use borrow.Author.Rules.{rules}
+use Rattle.definitions.specs.Outcome.{lengths}
+use Rattle.faults.proofs.check.Goals as goal
+
+pub returns : goal.returns
+unfolding lengths
+returns c = c.judge.ensures

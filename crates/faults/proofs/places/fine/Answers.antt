@@ -1,0 +1,45 @@
+-- `places::fine` meets its contract.
+-- Assumes nothing.
+use mathlib.Core.Path.{◌≡◌, subst}
+use Prim.Native.Nat.{◌≤◌, ◌<◌}
+use native.Mathlib.Omega.{arith}
+use borrow.Author.Rules.{rules}
+use Rattle.definitions.specs.Areas.{Areas}
+use Rattle.arena.specs.Lent.{areas_in}
+use Rattle.arena.specs.Sizes.{sizes_of}
+use Rattle.faults.specs.Checking.{ok_at, places_in}
+use Rattle.faults.proofs.Tests.{looks-there, pool-four, mention-four-six, members-used, components-used}
+use Rattle.faults.proofs.places.fine.Goals as goal
+
+pub record_fine-requires : goal.record_fine-requires
+record_fine-requires c =
+    let d = c in
+    (d.requires.0, (d.requires.1.0, (d.requires.1.1.0, (c.in-0-to-4.if-area-lt5-own.true, looks-there (sizes_of ((areas_in d.args.m.now))) d.args.number d.args.area ((let it : d.args.i < places_in (sizes_of ((areas_in d.args.m.now))) d.args.number d.args.area = d.requires.1.1.1.1 in it)) c.in-0-to-4.if-area-lt5-own.true))))
+
+pub mention_fine-requires : goal.mention_fine-requires
+mention_fine-requires c =
+    let d = c in
+    (d.requires.1.0.1, mention-four-six (sizes_of ((areas_in d.args.m.now))) d.args.number d.args.area ((let it : d.args.i < places_in (sizes_of ((areas_in d.args.m.now))) d.args.number d.args.area = d.requires.1.1.1.1 in it)) ((let it : 7 ≤ c.args.area = omega (arith, c.in_default.in_default-own.rest.0.1, c.in_default.in_default-own.rest.1) in it)))
+
+pub returns-in-5 : goal.returns-in-5
+returns-in-5 c =
+    let d = c in
+    members-used ((areas_in d.args.m.now)) d.args.number d.args.area d.args.i d.args.z d.requires.1.0.1
+    (pool-four (sizes_of ((areas_in d.args.m.now))) d.args.number d.args.area ((let it : d.args.i < places_in (sizes_of ((areas_in d.args.m.now))) d.args.number d.args.area = d.requires.1.1.1.1 in it)) (omega arith) (omega arith))
+    c.in-5.is c.pool_used.ensures
+
+pub returns-in-6 : goal.returns-in-6
+returns-in-6 c =
+    let d = c in
+    components-used ((areas_in d.args.m.now)) d.args.number d.args.area d.args.i d.args.z d.requires.1.0.1
+    (pool-four (sizes_of ((areas_in d.args.m.now))) d.args.number d.args.area ((let it : d.args.i < places_in (sizes_of ((areas_in d.args.m.now))) d.args.number d.args.area = d.requires.1.1.1.1 in it)) (omega arith) (omega arith))
+    c.in-6.is c.pool_used-in-6.ensures
+
+pub returns-in-0-to-4 : goal.returns-in-0-to-4
+returns-in-0-to-4 c = c.record_fine.ensures
+
+pub returns-in_default : goal.returns-in_default
+returns-in_default c =
+    let d = c in
+    let e : 7 ≡ d.args.area = omega (arith, (let it : 7 ≤ c.args.area = omega (arith, c.in_default.in_default-own.rest.0.1, c.in_default.in_default-own.rest.1) in it)) in
+    subst (λ a. c.mention_fine.result ≡ ok_at ((areas_in d.args.m.now)) d.args.number a d.args.i) e c.mention_fine.ensures
