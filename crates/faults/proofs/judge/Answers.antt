@@ -11,21 +11,17 @@ use Rattle.faults.proofs.Numbers.{Reached, by_lengths, from_first, places-known,
 use Rattle.faults.proofs.judge.Goals as goal
 
 pub loop-turn-init : goal.loop-turn-init
-loop-turn-init c = (omega arith, from_first ((areas_in c.args.m.now)) c.args.maps.now)
+loop-turn-init c = (omega arith, from_first (areas_in c.args.m.now) c.args.maps.now)
 
 pub offset_bounds-turn : goal.offset_bounds-turn
 offset_bounds-turn c = omega arith
 
--- ?? array-read-first : tie.Need-array-read-first invariant-loop decreases-loop invariant-loop2 decreases-loop2
--- array-read-first c = omega arith
-
 pub returns-in-Refused : goal.returns-in-Refused
 unfolding turns
 returns-in-Refused c =
-    let d = c in
     let l = c.loop-turn in
-    stops ((areas_in d.args.m.now)) d.args.maps.now l.turn l.invariant.1 (omega arith)
-    (by_lengths_lem ((areas_in d.args.m.now)) d.args.maps.now l.turn (omega arith) c.first-v.ensures) c.in-Refused.is
+    stops (areas_in c.args.m.now) c.args.maps.now l.turn l.invariant.1 (omega arith)
+    (by_lengths_lem (areas_in c.args.m.now) c.args.maps.now l.turn (omega arith) c.first-v.ensures) c.in-Refused.is
 
 pub overflow_add-turn : goal.overflow_add-turn
 overflow_add-turn c = omega arith
@@ -33,23 +29,20 @@ overflow_add-turn c = omega arith
 pub loop-turn-preserved : goal.loop-turn-preserved
 unfolding turns
 loop-turn-preserved c =
-    let d = c in
     let l = c.loop-turn in
-    let v = by_lengths_lem ((areas_in d.args.m.now)) d.args.maps.now l.turn (omega arith) c.first-v.ensures in
-    (omega arith, goes_on ((areas_in d.args.m.now)) d.args.maps.now l.turn l.invariant.1 (omega arith) v c.in_default.is)
+    let v = by_lengths_lem (areas_in c.args.m.now) c.args.maps.now l.turn (omega arith) c.first-v.ensures in
+    (omega arith, goes_on (areas_in c.args.m.now) c.args.maps.now l.turn l.invariant.1 (omega arith) v c.in_default.is)
 
 pub passes-requires : goal.passes-requires
 passes-requires c =
-    let d = c in
     let l = c.loop-turn in
-    measured ((areas_in d.args.m.now)) d.args.maps.now l.turn l.invariant.1 c.loop-turn-test.false
+    measured (areas_in c.args.m.now) c.args.maps.now l.turn l.invariant.1 c.loop-turn-test.false
 
 pub returns-then-passes : goal.returns-then-passes
 unfolding turns
 returns-then-passes c =
-    let d = c in
     let l = c.loop-turn in
-    rest-accept ((areas_in d.args.m.now)) d.args.maps.now l.turn l.invariant.1 c.loop-turn-test.false (omega arith)
+    rest-accept (areas_in c.args.m.now) c.args.maps.now l.turn l.invariant.1 c.loop-turn-test.false (omega arith)
     (c.passes.ensures c.if-passes.true)
 
 pub loop-turn-2-init : goal.loop-turn-2-init
@@ -58,39 +51,36 @@ loop-turn-2-init c = (c.loop-turn-test.false, c.loop-turn.invariant.1)
 pub offset_bounds-turn-in-loop-turn-2 : goal.offset_bounds-turn-in-loop-turn-2
 offset_bounds-turn-in-loop-turn-2 c = omega arith
 
--- ?? array-read-first-2 : tie.Need-array-read-first-2 invariant-loop decreases-loop invariant-loop2 decreases-loop2
--- array-read-first-2 c = omega arith
-
 pub first-v-requires-in-loop-turn-2 : goal.first-v-requires-in-loop-turn-2
 unfolding turns
 first-v-requires-in-loop-turn-2 c =
-    let d = c in
     let l = c.loop-turn-2 in
-    (places-known l.turn l.invariant.0 (omega arith), measured ((areas_in d.args.m.now)) d.args.maps.now l.turn l.invariant.1 l.invariant.0)
+    record { le_number = places-known l.turn l.invariant.0 (omega arith); measured = measured (areas_in c.args.m.now) c.args.maps.now l.turn l.invariant.1 l.invariant.0 }
 
 pub returns-in-Refused-v : goal.returns-in-Refused-v
 unfolding turns
 returns-in-Refused-v c =
-    let d = c in
     let l = c.loop-turn-2 in
-    stops ((areas_in d.args.m.now)) d.args.maps.now l.turn l.invariant.1 (omega arith)
-    (by-places ((areas_in d.args.m.now)) d.args.maps.now l.turn l.invariant.0 (omega arith) c.first-v-in-loop-turn-2.ensures)
+    stops (areas_in c.args.m.now) c.args.maps.now l.turn l.invariant.1 (omega arith)
+    (by-places (areas_in c.args.m.now) c.args.maps.now l.turn l.invariant.0 (omega arith) c.first-v-in-loop-turn-2.ensures)
     c.in-Refused-v.is
 
 pub overflow_add-turn-in-loop-turn-2 : goal.overflow_add-turn-in-loop-turn-2
 overflow_add-turn-in-loop-turn-2 c = omega arith
 
+pub loop-turn-2-smaller : goal.loop-turn-2-smaller
+unfolding turns
+loop-turn-2-smaller c = omega arith
+
 pub loop-turn-2-preserved : goal.loop-turn-2-preserved
 unfolding turns
 loop-turn-2-preserved c =
-    let d = c in
     let l = c.loop-turn-2 in
-    let v = by-places ((areas_in d.args.m.now)) d.args.maps.now l.turn l.invariant.0 (omega arith) c.first-v-in-loop-turn-2.ensures in
-    (omega arith, goes_on ((areas_in d.args.m.now)) d.args.maps.now l.turn l.invariant.1 (omega arith) v c.in_default-v.is)
+    let v = by-places (areas_in c.args.m.now) c.args.maps.now l.turn l.invariant.0 (omega arith) c.first-v-in-loop-turn-2.ensures in
+    (omega arith, goes_on (areas_in c.args.m.now) c.args.maps.now l.turn l.invariant.1 (omega arith) v c.in_default-v.is)
 
 pub returns : goal.returns
 unfolding turns
 returns c =
-    let d = c in
     let l = c.loop-turn-2 in
-    ends ((areas_in d.args.m.now)) d.args.maps.now l.turn l.invariant.1 c.loop-turn-2-test.false
+    ends (areas_in c.args.m.now) c.args.maps.now l.turn l.invariant.1 c.loop-turn-2-test.false

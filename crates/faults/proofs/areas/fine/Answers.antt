@@ -8,20 +8,23 @@ use Rattle.arena.specs.Lent.{areas_in}
 use Rattle.faults.proofs.Lengths.{arenas, areas-le, wide, whole, few, roomy}
 use Rattle.faults.proofs.areas.fine.Goals as goal
 
--- ?? rem-result : tie.Need-nonzero-rem-result
--- rem-result c = (let it : 0 < c.before.width.result = subst (λ w. 0 < w) (sym c.before.width.ensures) (wide c.before.before.before.args.area ((let it : c.before.before.before.args.area < 8 = omega (arith, areas-le c.before.before.before.args.number) in it))) in it)
+pub nonzero_rem-result : goal.nonzero_rem-result
+nonzero_rem-result c =
+    let w : 0 < c.width-width.result = subst (λ w. 0 < w) (sym c.width-width.ensures) (wide c.args.area (omega (arith, areas-le c.args.number))) in omega arith
 
--- ?? div-result : tie.Need-nonzero-div-result
--- div-result c = (let it : 0 < c.before.width.result = subst (λ w. 0 < w) (sym c.before.width.ensures) (wide c.before.before.before.args.area ((let it : c.before.before.before.args.area < 8 = omega (arith, areas-le c.before.before.before.args.number) in it))) in it)
+pub nonzero_div-result : goal.nonzero_div-result
+nonzero_div-result c =
+    let w : 0 < c.width-width.result = subst (λ w. 0 < w) (sym c.width-width.ensures) (wide c.args.area (omega (arith, areas-le c.args.number))) in omega arith
 
--- ?? div-result-2 : tie.Need-nonzero-div-result-2
--- div-result-2 c = (let it : 0 < c.before.width.result = subst (λ w. 0 < w) (sym c.before.width.ensures) (wide c.before.before.before.args.area ((let it : c.before.before.before.args.area < 8 = omega (arith, areas-le c.before.before.before.args.number) in it))) in it)
+pub nonzero_div-result-in_default : goal.nonzero_div-result-in_default
+nonzero_div-result-in_default c =
+    let w : 0 < c.width-width.result = subst (λ w. 0 < w) (sym c.width-width.ensures) (wide c.args.area (omega (arith, areas-le c.args.number))) in omega arith
 
 pub offset_bounds-maps-area : goal.offset_bounds-maps-area
-offset_bounds-maps-area c = omega (arith, (let it : c.args.area < 5 = omega (arith, arenas c.args.number c.in_default.in_default-own.rest.0.1 c.in_default.in_default-own.rest.1) in it))
+offset_bounds-maps-area c = omega (arith, arenas c.args.number c.in_default.in_default-own.rest.0.1 c.in_default.in_default-own.rest.1)
 
 pub bounds-maps-area : goal.bounds-maps-area
-bounds-maps-area c = (let it : c.args.area < 5 = omega (arith, arenas c.args.number c.in_default.in_default-own.rest.0.1 c.in_default.in_default-own.rest.1) in it)
+bounds-maps-area c = omega (arith, arenas c.args.number c.in_default.in_default-own.rest.0.1 c.in_default.in_default-own.rest.1)
 
 pub returns-in-1 : goal.returns-in-1
 returns-in-1 c = let a = c.args in whole (areas_in a.m.now) a.maps.now a.number a.area _ _ c.length-length.ensures c.width-width.ensures c.in-1.is

@@ -24,7 +24,7 @@ overflow_cast-result c = omega (arith, areas-le c.args.number)
 
 pub returns-then-not-fine : goal.returns-then-not-fine
 returns-then-not-fine c =
-    sym (scan-stop _ _ _ _ c.loop-area-test.true (sym c.fine.ensures ∙ not-true _ c.if-not-fine.true))
+    sym (scan-stop _ _ _ _ c.loop-area-test.true (sym c.fine.ensures ∙ c.if-not-fine.true))
     ∙ c.loop-area.invariant.1
     ∙ ap (scan_areas _ _) c.loop-area.invariant.0
 
@@ -34,7 +34,7 @@ overflow_add-area c = omega arith
 pub loop-area-preserved : goal.loop-area-preserved
 loop-area-preserved c = (
   c.loop-area.invariant.0,
-  sym (scan-on _ _ _ _ c.loop-area-test.true (sym c.fine.ensures ∙ not-false _ c.if-not-fine.false))
+  sym (scan-on _ _ _ _ c.loop-area-test.true (sym c.fine.ensures ∙ c.if-not-fine.false))
       ∙ c.loop-area.invariant.1,
 )
 

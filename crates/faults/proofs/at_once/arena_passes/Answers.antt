@@ -15,7 +15,7 @@ use Rattle.faults.proofs.AtOnce.{not-both, spans, Walked, passed-by, counted-on,
 use Rattle.faults.proofs.at_once.arena_passes.Goals as goal
 
 pub loop-i-init : goal.loop-i-init
-loop-i-init c = (omega arith, walked_none ((areas_in c.args.m.now)) c.args.area)
+loop-i-init c = (omega arith, walked_none (areas_in c.args.m.now) c.args.area)
 
 pub overflow_mul-at : goal.overflow_mul-at
 overflow_mul-at c = place-fits (numbered c.args.area) c.loop-i.i _ (omega arith) c.arena_width-width.ensures
@@ -34,30 +34,28 @@ overflow_add-i c = omega arith
 
 pub loop-i-preserved : goal.loop-i-preserved
 loop-i-preserved c =
-    let d = c in
-    let s = (areas_in d.args.m.now) in
-    let a = numbered d.args.area in
+    let s = (areas_in c.args.m.now) in
+    let a = numbered c.args.area in
     let i = c.loop-i.i in
     let h = c.loop-i.invariant.1 in
-    let l = leading-next s d.args.area i (ap (λ z. z.types) d.requires.1.1) h.leading c.leads-before.ensures in
+    let l = leading-next s c.args.area i (ap (λ z. z.types) c.requires.measured.1) h.leading c.leads-before.ensures in
     let ws = c.arena_words-ws.ensures in
     let ps = c.arena_pool-pool.ensures in
     let w = c.arena_width-width.ensures in
     let p = record-span s a i ws w c.span-span.ensures in (
       omega arith,
-      walked_on s d.args.area i h (counted-on s a i h.counted p c.run_sum-sum.ensures) l
-          (passed-by s d.requires.1.0 d.args.area i d.requires.0 d.args.z d.requires.1.1 (subst (λ n. i < n) c.own_size-n.ensures c.loop-i-test.true) h.counted p (ap length ps) l
+      walked_on s c.args.area i h (counted-on s a i h.counted p c.run_sum-sum.ensures) l
+          (passed-by s c.requires.measured.0 c.args.area i c.requires.area_bound c.args.z c.requires.measured.1 (subst (λ n. i < n) c.own_size-n.ensures c.loop-i-test.true) h.counted p (ap length ps) l
           c.limits-l.ensures (record-words s a i ws w) (record-run s a i ws w ps refl) c.record_passes.ensures c.if-not-record_passes.false),
     )
 
 pub returns : goal.returns
 returns c e =
-    let d = c in
-    let s = (areas_in d.args.m.now) in
+    let s = (areas_in c.args.m.now) in
     let h = c.loop-i.invariant in
-    let n = (let it : c.own_size-n.result ≡ size ((areas_in c.args.m.now)) (numbered c.args.area) = let d = c in
-    c.own_size-n.ensures ∙ ap (λ z. size_in z (numbered d.args.area)) d.requires.1.1 ∙ sym (size_in_lem ((areas_in d.args.m.now)) (numbered d.args.area)) in it) in (
-      all-passed s d.args.area d.requires.1.0 d.requires.0 n h.0 c.loop-i-test.false h.1,
-      all-used s d.args.area d.requires.1.0 d.requires.0 n h.0 c.loop-i-test.false h.1
+    let n : c.own_size-n.result ≡ size (areas_in c.args.m.now) (numbered c.args.area) =
+    c.own_size-n.ensures ∙ ap (λ z. size_in z (numbered c.args.area)) c.requires.measured.1 ∙ sym (size_in_lem (areas_in c.args.m.now) (numbered c.args.area)) in (
+      all-passed s c.args.area c.requires.measured.0 c.requires.area_bound n h.0 c.loop-i-test.false h.1,
+      all-used s c.args.area c.requires.measured.0 c.requires.area_bound n h.0 c.loop-i-test.false h.1
           (eqb-true _ _ e ∙ ap length c.arena_pool-pool.ensures),
     )

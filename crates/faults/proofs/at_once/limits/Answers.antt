@@ -6,20 +6,22 @@ use Prim.Native.Nat.{ℕ}
 use borrow.Author.Tests.{ne_eqb}
 use Rattle.slots.proofs.Decision.{at-keys}
 use Rattle.rules.specs.declared.Limits.{Limits}
+use Rattle.rules.specs.declared.Run.{Run}
+use Rattle.arena.specs.declared.sizes.Sizes.{Sizes}
 use Rattle.faults.specs.Checking.{limits_at}
 use Rattle.faults.proofs.at_once.limits.Goals as goal
 
 -- v is the limits of the area
-abbrev Is : (d : tie.Start) → Limits → ℕ → Type 0
-Is d v area = v ≡ limits_at area d.args.i d.args.before d.args.z d.args.run
+abbrev Is : ℕ → ℕ → Sizes → Run → Limits → ℕ → Type 0
+Is i before z run v area = v ≡ limits_at area i before z run
 
 pub returns-in-0 : goal.returns-in-0
 unfolding limits_at
-returns-in-0 c = at-keys (Is c.before _) (0 ∷ []) (refl, tt) _ c.in-0.is
+returns-in-0 c = at-keys (Is c.args.i c.args.before c.args.z c.args.run _) (0 ∷ []) (refl, tt) _ c.in-0.is
 
 pub returns-in-4 : goal.returns-in-4
 unfolding limits_at
-returns-in-4 c = at-keys (Is c.before _) (4 ∷ []) (refl, tt) _ c.in-4.is
+returns-in-4 c = at-keys (Is c.args.i c.args.before c.args.z c.args.run _) (4 ∷ []) (refl, tt) _ c.in-4.is
 
 pub returns-in_default : goal.returns-in_default
 unfolding limits_at

@@ -27,7 +27,10 @@ pub loop-area-init : goal.loop-area-init
 loop-area-init c = λ a l. absurd (not-suc-le-zero l)
 
 pub arena_passes-requires : goal.arena_passes-requires
-arena_passes-requires c = (c.loop-area-test.true, (c.requires, (let it : c.of-z.result ≡ sizes_of ((areas_in c.args.m.now)) = let d = c in sizes-are ((areas_in d.args.m.now)) d.requires c.of-z.ensures in it)))
+arena_passes-requires c = record {
+  area_bound = c.loop-area-test.true;
+  measured = (c.requires, sizes-are (areas_in c.args.m.now) c.requires c.of-z.ensures);
+}
 
 pub returns-then-not-arena_passes : goal.returns-then-not-arena_passes
 returns-then-not-arena_passes c e = absurd (not-both e)
@@ -36,10 +39,10 @@ pub overflow_add-area : goal.overflow_add-area
 overflow_add-area c = omega arith
 
 pub loop-area-preserved : goal.loop-area-preserved
-loop-area-preserved c = more ((areas_in c.args.m.now)) c.loop-area.area c.loop-area.invariant (c.arena_passes.ensures c.if-not-arena_passes.false)
+loop-area-preserved c = more (areas_in c.args.m.now) c.loop-area.area c.loop-area.invariant (c.arena_passes.ensures c.if-not-arena_passes.false)
 
 pub mentions_pass-requires : goal.mentions_pass-requires
-mentions_pass-requires c = (c.requires, (let it : c.of-z.result ≡ sizes_of ((areas_in c.args.m.now)) = let d = c in sizes-are ((areas_in d.args.m.now)) d.requires c.of-z.ensures in it))
+mentions_pass-requires c = (c.requires, sizes-are (areas_in c.args.m.now) c.requires c.of-z.ensures)
 
 pub returns : goal.returns
-returns c e = no-fault ((areas_in c.args.m.now)) (λ a l. c.loop-area.invariant a (omega arith)) (c.mentions_pass.ensures e)
+returns c e = no-fault (areas_in c.args.m.now) (λ a l. c.loop-area.invariant a (omega arith)) (c.mentions_pass.ensures e)

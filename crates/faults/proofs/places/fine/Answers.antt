@@ -12,27 +12,32 @@ use Rattle.faults.proofs.Tests.{looks-there, pool-four, mention-four-six, member
 use Rattle.faults.proofs.places.fine.Goals as goal
 
 pub record_fine-requires : goal.record_fine-requires
-record_fine-requires c =
-    let d = c in
-    (d.requires.0, (d.requires.1.0, (d.requires.1.1.0, (c.in-0-to-4.if-area-lt5-own.true, looks-there (sizes_of ((areas_in d.args.m.now))) d.args.number d.args.area ((let it : d.args.i < places_in (sizes_of ((areas_in d.args.m.now))) d.args.number d.args.area = d.requires.1.1.1.1 in it)) c.in-0-to-4.if-area-lt5-own.true))))
+record_fine-requires c = record {
+  le_number = c.requires.le_number;
+  measured = c.requires.measured;
+  carried_value = c.requires.carried_value;
+  area_bound = (
+    c.in-0-to-4.if-area-lt5-own.true,
+    looks-there (sizes_of (areas_in c.args.m.now)) c.args.number c.args.area c.requires.area_bound.1 c.in-0-to-4.if-area-lt5-own.true,
+  );
+}
 
 pub mention_fine-requires : goal.mention_fine-requires
-mention_fine-requires c =
-    let d = c in
-    (d.requires.1.0.1, mention-four-six (sizes_of ((areas_in d.args.m.now))) d.args.number d.args.area ((let it : d.args.i < places_in (sizes_of ((areas_in d.args.m.now))) d.args.number d.args.area = d.requires.1.1.1.1 in it)) ((let it : 7 ≤ c.args.area = omega (arith, c.in_default.in_default-own.rest.0.1, c.in_default.in_default-own.rest.1) in it)))
+mention_fine-requires c = record {
+  z_value = c.requires.measured.1;
+  number_value = mention-four-six (sizes_of (areas_in c.args.m.now)) c.args.number c.args.area c.requires.area_bound.1 (omega (arith, c.in_default.in_default-own.rest.0.1, c.in_default.in_default-own.rest.1));
+}
 
 pub returns-in-5 : goal.returns-in-5
 returns-in-5 c =
-    let d = c in
-    members-used ((areas_in d.args.m.now)) d.args.number d.args.area d.args.i d.args.z d.requires.1.0.1
-    (pool-four (sizes_of ((areas_in d.args.m.now))) d.args.number d.args.area ((let it : d.args.i < places_in (sizes_of ((areas_in d.args.m.now))) d.args.number d.args.area = d.requires.1.1.1.1 in it)) (omega arith) (omega arith))
+    members-used (areas_in c.args.m.now) c.args.number c.args.area c.args.i c.args.z c.requires.measured.1
+    (pool-four (sizes_of (areas_in c.args.m.now)) c.args.number c.args.area c.requires.area_bound.1 (omega arith) (omega arith))
     c.in-5.is c.pool_used.ensures
 
 pub returns-in-6 : goal.returns-in-6
 returns-in-6 c =
-    let d = c in
-    components-used ((areas_in d.args.m.now)) d.args.number d.args.area d.args.i d.args.z d.requires.1.0.1
-    (pool-four (sizes_of ((areas_in d.args.m.now))) d.args.number d.args.area ((let it : d.args.i < places_in (sizes_of ((areas_in d.args.m.now))) d.args.number d.args.area = d.requires.1.1.1.1 in it)) (omega arith) (omega arith))
+    components-used (areas_in c.args.m.now) c.args.number c.args.area c.args.i c.args.z c.requires.measured.1
+    (pool-four (sizes_of (areas_in c.args.m.now)) c.args.number c.args.area c.requires.area_bound.1 (omega arith) (omega arith))
     c.in-6.is c.pool_used-in-6.ensures
 
 pub returns-in-0-to-4 : goal.returns-in-0-to-4
@@ -40,6 +45,6 @@ returns-in-0-to-4 c = c.record_fine.ensures
 
 pub returns-in_default : goal.returns-in_default
 returns-in_default c =
-    let d = c in
-    let e : 7 ≡ d.args.area = omega (arith, (let it : 7 ≤ c.args.area = omega (arith, c.in_default.in_default-own.rest.0.1, c.in_default.in_default-own.rest.1) in it)) in
-    subst (λ a. c.mention_fine.result ≡ ok_at ((areas_in d.args.m.now)) d.args.number a d.args.i) e c.mention_fine.ensures
+    let s : 7 ≤ c.args.area = omega (arith, c.in_default.in_default-own.rest.0.1, c.in_default.in_default-own.rest.1) in
+    let e : 7 ≡ c.args.area = omega arith in
+    subst (λ a. c.mention_fine.result ≡ ok_at (areas_in c.args.m.now) c.args.number a c.args.i) e c.mention_fine.ensures

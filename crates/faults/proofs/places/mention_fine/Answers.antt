@@ -9,10 +9,8 @@ use Rattle.faults.proofs.places.mention_fine.Goals as goal
 
 pub returns-then-number-eq4 : goal.returns-then-number-eq4
 returns-then-number-eq4 c =
-    let d = c in
-    mention-area ((areas_in d.args.m.now)) d.args.number d.args.i _ c.area-area.ensures c.if-number-eq4.true
+    mention-area (areas_in c.args.m.now) c.args.number c.args.i _ c.area-area.ensures c.if-number-eq4.true
 
 pub returns : goal.returns
 returns c =
-    let d = c in
-    mention-handle ((areas_in d.args.m.now)) d.args.number d.args.i _ c.area-area.ensures d.args.z _ _ d.requires.0 (⊎_elim (λ e. absurd (c.if-number-eq4.false e)) (λ e. e) d.requires.1) c.handle.ensures c.own_size.ensures
+    mention-handle (areas_in c.args.m.now) c.args.number c.args.i _ c.area-area.ensures c.args.z _ _ c.requires.z_value (⊎_elim (λ e. absurd (c.if-number-eq4.false e)) (λ e. e) c.requires.number_value) c.handle.ensures c.own_size.ensures

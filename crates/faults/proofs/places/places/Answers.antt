@@ -30,9 +30,10 @@ returns-then-area-lt-MENTIONS c =
 pub returns-then-number-eq4-2 : goal.returns-then-number-eq4-2
 returns-then-number-eq4-2 c =
     let a = c.args in
-    mentions a.z a.number a.area c.if-area-lt-MENTIONS.false (⊎_elim (λ w. inl w.taken) (λ w. inr (eqb-true _ 6 w.1.taken)) c.then-number-eq4-2.branch)
+    mentions a.z a.number a.area c.if-area-lt-MENTIONS.false
+    (⊎_elim (λ h. inl h) (λ h. inr h.1) c.then-number-eq4-2.either)
 
 pub returns : goal.returns
 returns c =
     let a = c.args in
-    no-mentions a.z a.number a.area c.if-area-lt-MENTIONS.false c.if-number-eq4-2.false (eqb-false _ 6 c.if-number-eq6.false)
+    no-mentions a.z a.number a.area c.if-area-lt-MENTIONS.false c.if-number-eq4-2.false c.if-number-eq6.false

@@ -15,9 +15,8 @@ overflow_mul-i c = place-fits (numbered c.args.area) c.args.i _ (omega arith) c.
 
 pub returns : goal.returns
 returns c =
-    let d = c in
-    let a = numbered d.args.area in
+    let a = numbered c.args.area in
     c.record_keeps.ensures
-    ∙ shaped-record ((areas_in d.args.m.now)) a d.args.i d.requires.0 _ d.requires.1
-    (record-span ((areas_in d.args.m.now)) a d.args.i c.arena_words-ws.ensures c.arena_width.ensures c.span.ensures)
+    ∙ shaped-record (areas_in c.args.m.now) a c.args.i c.requires.measured _ c.requires.sum_value
+    (record-span (areas_in c.args.m.now) a c.args.i c.arena_words-ws.ensures c.arena_width.ensures c.span.ensures)
     (ap length c.arena_pool.ensures)
