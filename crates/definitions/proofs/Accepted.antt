@@ -8,7 +8,7 @@ use native.Mathlib.Nat.{add-zero, zero-add, suc-add, add-suc, zero-lt-suc, le_tr
 use lib.Dec.{T, eqb, ltb, leb, ltb→lt, leb→le, lit<, lit≤}
 use lib.ListN.{length, get_or}
 use Rattle.definitions.specs.Lists.{all}
-use Rattle.definitions.specs.Areas.{Areas, Arena, N, all_words, at, constants, expressions, globals, length_of, records_of, limit, limits, all_records, marks_words, mention_count, mention_word, area_number, overrides, pool, size, types, widths, words}
+use Rattle.definitions.specs.Areas.{Areas, Arena, N, all_words, constants, expressions, globals, length_of, records_of, limit, limits, all_records, marks_words, mention_count, mention_word, area_number, overrides, pool, size, types, widths, words}
 use Rattle.definitions.specs.Roots.{mention}
 use Rattle.definitions.specs.Order.{well_ordered}
 use Rattle.definitions.specs.Refusals.{Verdict, accepted, check, check1, check2, check3, check4, check5, check6, check7, first_of, held_at, inside, of_module, passes, pool_used, position, refused, runs_before, scan, scan_areas, scan_mentions, scan_records, shaped_at, turn, turns, under}

@@ -7,7 +7,7 @@ use Prim.Native.Nat.{ℕ, zero, suc, ◌+◌, ◌/◌, ◌%◌, ◌<◌, max}
 use native.Mathlib.Omega.{arith}
 use lib.Dec.{eqb, leb, ltb, lit<}
 use lib.ListN.{length, get_or}
-use Rattle.definitions.specs.Lists.{all, always, count_up, gather, select, total}
+use Rattle.definitions.specs.Lists.{all, always, count_up, gather, select}
 use Rattle.definitions.specs.Areas.{Areas, Arena, Elem, Words, all_words, at, constants, expressions, globals, length_of, mention_count, mention_word}
 use Rattle.definitions.specs.Areas.{limits, overrides, pool, records_of, size, types, width, widths, word, words}
 use Rattle.definitions.specs.Slots.{Slot, below, body, count, expr_body, form_of, free, layout, may, must, slots, start, tail, type_body, unused}

@@ -10,7 +10,7 @@ use lib.Dec.{eqb, ltb, leb}
 use lib.ListN.{length, get_or-eq_default}
 use borrow.Author.Tests.{lt-ltb, le-ltb, le-leb, lt-leb, leb-true, leb-false, eq-eqb, ne_eqb}
 use Rattle.definitions.specs.Lists.{all}
-use Rattle.definitions.specs.Areas.{N, Arena, Areas, Elem, at, types, constants, overrides, globals, expressions, width, words, word, size, pool}
+use Rattle.definitions.specs.Areas.{N, Arena, Areas, Elem, types, constants, overrides, globals, expressions, width, words, word, size, pool}
 use Rattle.definitions.specs.Slots.{Slot, unused, free, below, must, may, start, count}
 use Rattle.definitions.specs.References.{span, named_by, named_from}
 use Rattle.definitions.specs.Order.{with_behind, sized_by, past_dep}

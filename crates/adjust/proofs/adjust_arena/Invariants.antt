@@ -1,17 +1,9 @@
 -- `adjust::adjust_arena` meets its contract: after h turns the pass stands as `Rewriting` says.
 -- Assumes nothing.
-use mathlib.Core.Path.{sym, ap, ◌∙◌}
-use mathlib.Core.Logic.{⊎_elim}
-use Prim.Native.Nat.{◌+◌, ◌-◌, ◌≤◌, ◌<◌}
-use native.Mathlib.Nat.{div-le_self}
-use native.Mathlib.Omega.{arith}
-use lib.ListN.{length}
+use Prim.Native.Nat.{◌-◌, ◌≤◌}
 use Rattle.definitions.specs.Areas.{numbered}
-use Rattle.definitions.specs.Outcome.{map_of}
-use Rattle.definitions.proofs.Reading.{width-pos}
 use Rattle.arena.specs.Lent.{maps_of}
-use Rattle.adjust.proofs.Passes.{Rewriting, rewriting, within, record-dropped, record-kept, rewritten}
-use borrow.Author.Rules.{rules}
+use Rattle.adjust.proofs.Passes.{Rewriting}
 use Rattle.adjust.proofs.adjust_arena.Given as goal
 
 abbrev pub invariant-loop-h : goal.invariant-loop-h

@@ -7,7 +7,6 @@ use Prim.Native.Nat.{ℕ}
 use native.Mathlib.Omega.{arith}
 use lib.Seq.{sets}
 use types.Run.{OneOf}
-use borrow.Author.Rules.{rules}
 use Rattle.definitions.specs.Areas.{Words, numbered, width}
 use Rattle.definitions.specs.Slots.{body}
 use Rattle.definitions.specs.Outcome.{Maps, map_of}

@@ -2,10 +2,8 @@
 -- Assumes nothing.
 use mathlib.Core.Path.{◌≡◌, refl, ◌∙◌}
 use mathlib.Core.Bool.{Bool, true, false}
-use mathlib.Core.Logic.{⊎_elim}
 use Prim.Native.Nat.{ℕ}
-use borrow.Author.Rules.{rules}
-use borrow.Author.Tests.{eq-eqb, ne_eqb, not-true, not-false}
+use borrow.Author.Tests.{eq-eqb, ne_eqb}
 use Rattle.definitions.specs.Areas.{Words, N}
 use Rattle.definitions.specs.MapEntries.{lookup}
 use Rattle.adjust.specs.Rewrite.{init_by}
@@ -36,6 +34,6 @@ returns c =
     let a = c.args in
     c.expression_after.ensures
     ∙ elim c.if-init-eq-N.branch [
-        | then-init-eq-N+else-not-must w ↦ due-there a.must a.expression_map.now a.init.0 w.if-not-must.false
-        | else-init-eq-N w ↦ present a.must a.expression_map.now a.init.0 w.if-init-eq-N.false
-      ]
+      | then-init-eq-N+else-not-must w ↦ due-there a.must a.expression_map.now a.init.0 w.if-not-must.false
+      | else-init-eq-N w ↦ present a.must a.expression_map.now a.init.0 w.if-init-eq-N.false
+    ]

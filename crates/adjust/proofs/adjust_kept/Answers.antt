@@ -7,7 +7,6 @@ use native.Mathlib.Nat.{add-zero}
 use native.Mathlib.Omega.{arith}
 use lib.ListN.{length, get_or}
 use lib.Seq.{sets}
-use borrow.Author.Rules.{rules}
 use Rattle.definitions.specs.Areas.{Words, Arena, numbered, width}
 use Rattle.definitions.specs.Slots.{Slot, body, tail, slots, carried}
 use Rattle.definitions.specs.Outcome.{Maps}

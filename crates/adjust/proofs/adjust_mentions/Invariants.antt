@@ -1,11 +1,9 @@
 -- `adjust::adjust_mentions` meets its contract: the mentions before `at` are adjusted.
 -- Assumes nothing.
 use Prim.Native.Nat.{◌-◌}
-use native.Mathlib.Omega.{arith}
 use lib.ListN.{length}
 use Rattle.arena.specs.Lent.{maps_of}
-use Rattle.adjust.proofs.Passes.{Renaming, renaming, mention-renamed, renamed}
-use borrow.Author.Rules.{rules}
+use Rattle.adjust.proofs.Passes.{Renaming}
 use Rattle.adjust.proofs.adjust_mentions.Given as goal
 
 abbrev pub invariant-loop-mentions : goal.invariant-loop-mentions

@@ -8,7 +8,6 @@ use native.Mathlib.Nat.{add-zero}
 use native.Mathlib.Omega.{arith}
 use lib.ListN.{get_or, set, length-set}
 use lib.Seq.{sets, get_or-set_other}
-use borrow.Author.Rules.{rules}
 use Rattle.definitions.specs.Areas.{Words}
 use Rattle.slots.specs.Codes.{words_from}
 use Rattle.adjust.specs.Rewrite.{typed_by}

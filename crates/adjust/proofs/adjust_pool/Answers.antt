@@ -1,15 +1,14 @@
 -- `adjust::adjust_pool` meets its contract: after h turns the pass stands as `Packing` says.
 -- Assumes nothing.
 use mathlib.Core.Path.{◌≡◌, sym, ◌∙◌}
-use mathlib.Core.Logic.{⊎_elim}
-use Prim.Native.Nat.{◌+◌, ◌-◌, ◌≤◌, ◌<◌, min}
+use Prim.Native.Nat.{◌-◌, min}
 use native.Mathlib.Nat.{div-le_self}
 use native.Mathlib.Omega.{arith}
 use lib.ListN.{length}
 use Rattle.definitions.specs.Areas.{numbered}
 use Rattle.definitions.proofs.Reading.{width-pos}
 use Rattle.adjust.proofs.Stores.{tail-filled}
-use Rattle.adjust.proofs.Passes.{within, Packing, packing, run-dropped, run-kept, run_none, packed, packed-count}
+use Rattle.adjust.proofs.Passes.{within, packing, run-dropped, run-kept, run_none, packed, packed-count}
 use borrow.Author.Rules.{rules}
 use Rattle.adjust.proofs.adjust_pool.Goals as goal
 use Rattle.adjust.proofs.adjust_pool.Goals.{then-pool-from, else-pool-from, then-span-ne0+then-kept_at, else-span-ne0}

@@ -1,20 +1,6 @@
 -- `adjust::adjust_record` meets its contract: after k turns k words of the record are stored, and `rest` has the slots of those left.
 -- Assumes nothing.
-use mathlib.Core.Path.{◌≡◌, sym, ap, ap₂, ◌∙◌}
-use mathlib.Core.List.{◌∷◌}
-use Prim.Native.Nat.{ℕ, suc, ◌+◌, ◌-◌, ◌/◌, ◌%◌, ◌≤◌, ◌<◌}
-use native.Mathlib.Nat.{sub-zero}
-use native.Mathlib.Numerals.{add-one}
 use native.Mathlib.Omega.{arith}
-use lib.ListN.{get_or, set}
-use lib.Seq.{sets}
-use Rattle.definitions.specs.Areas.{Words}
-use Rattle.definitions.specs.Slots.{Slot}
-use Rattle.definitions.specs.Outcome.{Maps}
-use Rattle.slots.specs.Codes.{decoded, unpacked, words_from}
-use Rattle.arena.specs.Lent.{maps_of}
-use Rattle.adjust.specs.Rewrite.{adjusted_by, record_from}
-use Rattle.adjust.proofs.Stores.{Storing, none-stored, one-stored, all-stored}
 use borrow.Author.Rules.{rules}
 use Rattle.adjust.proofs.adjust_record.Invariants.{at-start, turn, at-end}
 use Rattle.adjust.proofs.adjust_record.Goals as goal

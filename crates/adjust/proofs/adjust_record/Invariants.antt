@@ -15,7 +15,6 @@ use Rattle.slots.specs.Codes.{decoded, unpacked, words_from}
 use Rattle.arena.specs.Lent.{maps_of}
 use Rattle.adjust.specs.Rewrite.{adjusted_by, record_from}
 use Rattle.adjust.proofs.Stores.{Storing, none-stored, one-stored, all-stored}
-use borrow.Author.Rules.{rules}
 use Rattle.adjust.proofs.adjust_record.Given as goal
 
 module _ (p : Maps) (b : ℕ) (old : Words) (from n shape : ℕ) where

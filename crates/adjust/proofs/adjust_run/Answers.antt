@@ -1,15 +1,7 @@
 -- `adjust::adjust_run` meets its contract: after k turns k words of the run are stored.
 -- Assumes nothing.
-use mathlib.Core.Path.{◌≡◌, sym, ap, ◌∙◌}
-use mathlib.Core.List.{[], ◌∷◌, map}
-use Prim.Native.Nat.{ℕ, suc, ◌+◌, ◌-◌, ◌≤◌, ◌<◌}
-use native.Mathlib.Nat.{add-zero, sub-zero}
 use native.Mathlib.Omega.{arith}
-use lib.ListN.{length, get_or, take, drop, set}
-use lib.Seq.{drop-cons}
-use Rattle.definitions.specs.Areas.{Words}
-use Rattle.definitions.specs.MapEntries.{lookup}
-use Rattle.adjust.proofs.Stores.{Storing, none-stored, one-stored, all-stored}
+use Rattle.adjust.proofs.Stores.{none-stored, all-stored}
 use borrow.Author.Rules.{rules}
 use Rattle.adjust.proofs.adjust_run.Invariants.{at-start, at-end, turn}
 use Rattle.adjust.proofs.adjust_run.Goals as goal

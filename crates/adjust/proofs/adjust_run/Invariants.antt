@@ -9,8 +9,7 @@ use lib.ListN.{length, get_or, take, drop, set}
 use lib.Seq.{drop-cons}
 use Rattle.definitions.specs.Areas.{Words}
 use Rattle.definitions.specs.MapEntries.{lookup}
-use Rattle.adjust.proofs.Stores.{Storing, none-stored, one-stored, all-stored}
-use borrow.Author.Rules.{rules}
+use Rattle.adjust.proofs.Stores.{Storing, one-stored}
 use Rattle.adjust.proofs.adjust_run.Given as goal
 
 module _ (own pool : Words) (from n : ℕ) where

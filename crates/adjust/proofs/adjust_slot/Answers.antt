@@ -15,7 +15,6 @@ use Rattle.slots.specs.declared.Slot.{Slot}
 use Rattle.slots.specs.declared.Slot.TheVariants.{Unused, Free, Below, Must, May, Start, Count}
 use Rattle.slots.specs.contracts.Slot.{the_type}
 use Rattle.adjust.specs.Rewrite.{adjusted_by}
-use borrow.Author.Rules.{rules}
 use borrow.Enum.Refused.{opened}
 use Rattle.adjust.proofs.adjust_slot.Goals as goal
 

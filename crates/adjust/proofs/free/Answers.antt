@@ -1,10 +1,8 @@
 -- `adjust::free` meets its contract: after some turns the words before `at` stand as they are to.
 -- Assumes nothing.
-use Prim.Native.Nat.{◌-◌}
 use native.Mathlib.Omega.{arith}
-use lib.ListN.{length}
 use borrow.Author.Rules.{rules}
-use Rattle.adjust.proofs.Stores.{tail-filled, Freeing, freeing, one-freed, all-freed}
+use Rattle.adjust.proofs.Stores.{tail-filled, freeing, one-freed, all-freed}
 use Rattle.adjust.proofs.free.Goals as goal
 
 pub loop-ws-init : goal.loop-ws-init

@@ -8,7 +8,6 @@ use Rattle.definitions.specs.Areas.{N}
 use Rattle.definitions.specs.MapEntries.{lookup}
 use Rattle.definitions.proofs.Judged.{get_or-any}
 use Rattle.adjust.specs.Rewrite.{kept_by}
-use borrow.Author.Rules.{rules}
 use Rattle.adjust.proofs.kept_at.Goals as goal
 
 pub returns-then-h-own : goal.returns-then-h-own

@@ -4,7 +4,6 @@ use mathlib.Core.Path.{◌≡◌, sym, ap}
 use Rattle.definitions.specs.Outcome.{Maps, map_of}
 use Rattle.slots.specs.Codes.{arena_of}
 use Rattle.slots.specs.declared.Arena.{Arena}
-use borrow.Author.Rules.{rules}
 use Rattle.adjust.proofs.map_of.Goals as goal
 
 -- the map of the arena that the arm is given

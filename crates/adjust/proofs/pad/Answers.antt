@@ -1,10 +1,6 @@
 -- `adjust::pad` meets its contract: after i turns the first i words are N.
 -- Assumes nothing.
-use mathlib.Core.Path.{◌≡◌}
-use mathlib.Core.List.{◌++◌}
-use Prim.Native.Nat.{◌-◌, ◌≤◌}
 use native.Mathlib.Omega.{arith}
-use lib.ListN.{length, drop, replicate}
 use borrow.Author.Fill.{fill_none, fill_more}
 use Rattle.definitions.specs.Areas.{N}
 use Rattle.adjust.proofs.Stores.{filled}

@@ -3,12 +3,8 @@
 use mathlib.Core.Path.{◌≡◌}
 use mathlib.Core.List.{◌++◌}
 use Prim.Native.Nat.{◌-◌, ◌≤◌}
-use native.Mathlib.Omega.{arith}
 use lib.ListN.{length, drop, replicate}
-use borrow.Author.Fill.{fill_none, fill_more}
 use Rattle.definitions.specs.Areas.{N}
-use Rattle.adjust.proofs.Stores.{filled}
-use borrow.Author.Rules.{rules}
 use Rattle.adjust.proofs.pad.Given as goal
 
 abbrev pub invariant-loop-i : goal.invariant-loop-i

@@ -2,13 +2,13 @@
 -- Assumes nothing.
 use mathlib.Core.Path.{◌≡◌, refl, ap, ◌∙◌}
 use mathlib.Core.List.{◌∷◌}
-use Prim.Native.Nat.{ℕ, suc, ◌+◌, ◌-◌, ◌≤◌, ◌<◌}
+use Prim.Native.Nat.{ℕ, suc, ◌+◌, ◌≤◌, ◌<◌}
 use native.Mathlib.Omega.{arith}
 use lib.ListN.{length, get_or, drop, drop_of_length-le}
 use lib.Seq.{drop-cons}
 use borrow.Author.Rules.{rules}
 use Rattle.definitions.specs.Areas.{Words}
-use Rattle.adjust.proofs.Stores.{Storing, none-stored, one-stored, all-stored}
+use Rattle.adjust.proofs.Stores.{none-stored, one-stored, all-stored}
 use Rattle.adjust.proofs.write.Goals as goal
 
 -- the next word, and what is left past it

@@ -2,7 +2,6 @@
 -- Assumes nothing.
 use mathlib.Core.Path.{ap, sym, ◌∙◌}
 use Rattle.handle_map.specs.Answers.{adjusted_of}
-use borrow.Author.Rules.{rules}
 use Rattle.cadnohal.proofs.cadnohal_adjust.Goals as goal
 
 pub returns-in-To : goal.returns-in-To

@@ -2,7 +2,6 @@
 -- Assumes nothing.
 use mathlib.Core.Path.{ap, sym, ◌∙◌}
 use Rattle.handle_map.specs.Answers.{ranged_of}
-use borrow.Author.Rules.{rules}
 use Rattle.cadnohal.proofs.cadnohal_adjust_range.Goals as goal
 
 pub returns-in-Span : goal.returns-in-Span

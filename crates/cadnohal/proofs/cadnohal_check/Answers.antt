@@ -2,7 +2,6 @@
 -- Assumes nothing.
 use mathlib.Core.Path.{ap, ◌∙◌}
 use Rattle.cadnohal.specs.Boundary.{answer_to}
-use borrow.Author.Rules.{rules}
 use Rattle.cadnohal.proofs.cadnohal_check.Goals as goal
 
 pub returns : goal.returns

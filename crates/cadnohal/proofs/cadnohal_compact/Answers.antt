@@ -1,7 +1,6 @@
 -- `cadnohal_compact` meets its contract.
 -- Assumes nothing.
 use Rattle.cadnohal.proofs.Close.{boundary-closes}
-use borrow.Author.Rules.{rules}
 use Rattle.cadnohal.proofs.cadnohal_compact.Goals as goal
 
 pub returns : goal.returns

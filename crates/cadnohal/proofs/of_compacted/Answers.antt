@@ -2,7 +2,6 @@
 -- Assumes nothing.
 use mathlib.Core.Path.{ap, sym, ◌∙◌}
 use Rattle.cadnohal.specs.Boundary.{answer_of}
-use borrow.Author.Rules.{rules}
 use Rattle.cadnohal.proofs.of_compacted.Goals as goal
 
 pub returns-in-Kept : goal.returns-in-Kept

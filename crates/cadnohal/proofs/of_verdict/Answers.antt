@@ -3,7 +3,6 @@
 use mathlib.Core.Path.{ap, sym, ◌∙◌}
 use Rattle.faults.specs.Checking.{report_of}
 use Rattle.cadnohal.specs.Boundary.{answer_to}
-use borrow.Author.Rules.{rules}
 use Rattle.cadnohal.proofs.of_verdict.Goals as goal
 
 pub returns-in-Accepted : goal.returns-in-Accepted

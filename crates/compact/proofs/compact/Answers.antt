@@ -1,14 +1,12 @@
 -- `compact` meets its contract: one law for each return, over what the stages leave.
 -- Assumes nothing.
 use native.Mathlib.Omega.{arith}
-use Prim.Native.Nat.{◌<◌}
-use Rattle.definitions.specs.Areas.{N, Areas, area_number, limits, all_records, marks_words}
+use Rattle.definitions.specs.Areas.{area_number, limits, all_records, marks_words}
 use Rattle.compact.proofs.Close.{refused-closes, words-few, accepted-closes}
 use Rattle.definitions.specs.Areas.{areas_of}
 use Rattle.arena.specs.Lent.{maps_of}
 use borrow.Author.Rules.{rules}
 use Rattle.compact.proofs.compact.Goals as goal
-
 
 pub judge-judged-requires : goal.judge-judged-requires
 unfolding marks_words all_records limits area_number

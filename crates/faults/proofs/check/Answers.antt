@@ -1,6 +1,5 @@
 -- `check` meets its contract: it judges the module and the lengths that it was given.
 -- Assumes nothing.
-use borrow.Author.Rules.{rules}
 use Rattle.definitions.specs.Outcome.{lengths}
 use Rattle.faults.proofs.check.Goals as goal
 

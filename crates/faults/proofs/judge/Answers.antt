@@ -1,13 +1,9 @@
 -- `judge` meets its contract. Both loops carry that the turns from here on decide, since those before accept.
 -- Assumes nothing.
-use Prim.Native.Nat.{◌-◌, ◌≤◌}
 use native.Mathlib.Omega.{arith}
-use lib.ListN.{length}
-use borrow.Author.Rules.{rules}
-use Rattle.definitions.specs.Areas.{Areas}
 use Rattle.definitions.specs.Refusals.{turns}
 use Rattle.arena.specs.Lent.{areas_in}
-use Rattle.faults.proofs.Numbers.{Reached, by_lengths, from_first, places-known, by_lengths_lem, by-places, goes_on, stops, ends, rest-accept, measured}
+use Rattle.faults.proofs.Numbers.{from_first, places-known, by_lengths_lem, by-places, goes_on, stops, ends, rest-accept, measured}
 use Rattle.faults.proofs.judge.Goals as goal
 
 pub loop-turn-init : goal.loop-turn-init

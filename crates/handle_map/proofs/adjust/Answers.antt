@@ -1,7 +1,6 @@
 -- `handle_map::adjust` meets its contract.
 -- Assumes nothing.
 use mathlib.Core.Path.{◌∙◌, sym}
-use borrow.Author.Rules.{rules}
 use borrow.Author.Tests.{lt-ltb, le-ltb, eq-eqb, ne_eqb}
 use Rattle.definitions.specs.Areas.{N}
 use Rattle.definitions.specs.MapEntries.{adjust, lookup}

@@ -1,11 +1,7 @@
 -- `handle_map::first_live` meets its contract. The invariant: no word before `i` is live. The measure is what is left of the length.
 -- Assumes nothing.
-use mathlib.Core.Path.{◌≡◌, refl}
-use Prim.Native.Nat.{◌≤◌, ◌-◌}
+use mathlib.Core.Path.{refl}
 use native.Mathlib.Omega.{arith}
-use borrow.Author.Rules.{rules}
-use lib.ListN.{length, drop}
-use Rattle.definitions.specs.MapEntries.{live}
 use Rattle.handle_map.proofs.Live.{next, first-is, no-first}
 use Rattle.handle_map.proofs.first_live.Goals as goal
 

@@ -3,13 +3,13 @@
 use mathlib.Core.Path.{◌≡◌}
 use mathlib.Core.Bool.{cond}
 use mathlib.Core.List.{List}
-use Prim.Native.Nat.{ℕ, ◌-◌, ◌≤◌}
+use Prim.Native.Nat.{ℕ, ◌≤◌}
 use native.Mathlib.Omega.{arith}
 use borrow.Author.Rules.{rules}
 use borrow.Author.Tests.{ltb-false}
 use Rattle.arena.specs.HandleSet.{member}
 use Rattle.handle_map.specs.FromSet.{in_set}
-use Rattle.handle_map.proofs.Steps.{Numbered, at_most_one, at-start, turn, at-end}
+use Rattle.handle_map.proofs.Steps.{at_most_one, at-start, turn, at-end}
 use Rattle.handle_map.proofs.from_set.Goals as goal
 
 -- a bit as a number is at most 1

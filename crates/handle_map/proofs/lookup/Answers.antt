@@ -1,7 +1,6 @@
 -- `handle_map::lookup` meets its contract.
 -- Assumes nothing.
 use mathlib.Core.Path.{sym}
-use borrow.Author.Rules.{rules}
 use lib.ListN.{get_or-eq_default}
 use Rattle.definitions.specs.Areas.{N}
 use Rattle.definitions.specs.MapEntries.{lookup}

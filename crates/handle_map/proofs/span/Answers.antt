@@ -1,7 +1,6 @@
 -- `handle_map::span` meets its contract. The last live word is not N, so one more fits.
 -- Assumes nothing.
 use native.Mathlib.Omega.{arith}
-use borrow.Author.Rules.{rules}
 use Rattle.handle_map.proofs.Live.{span_none, span-some, last_some}
 use Rattle.handle_map.proofs.span.Goals as goal
 

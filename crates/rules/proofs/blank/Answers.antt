@@ -1,12 +1,9 @@
 -- `rules::blank` meets its contract. The loop's invariant: all words are N just where all that are left are.
 -- Assumes nothing.
-use mathlib.Core.Path.{◌≡◌, refl, ◌∙◌}
-use Prim.Native.Nat.{◌-◌}
+use mathlib.Core.Path.{refl, ◌∙◌}
 use native.Mathlib.Omega.{arith}
-use borrow.Author.Rules.{rules}
 use borrow.Author.Tests.{eq-eqb, ne_eqb}
-use Rattle.definitions.specs.Refusals.{every}
-use Rattle.slots.specs.Codes.{unpacked, words_from}
+use Rattle.slots.specs.Codes.{words_from}
 use Rattle.rules.specs.Rules.{empty}
 use Rattle.rules.proofs.Every.{turn, done}
 use Rattle.rules.proofs.blank.Goals as goal

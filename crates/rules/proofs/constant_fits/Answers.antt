@@ -1,6 +1,5 @@
 -- `rules::constant_fits` meets its contract.
 -- Assumes nothing.
-use borrow.Author.Rules.{rules}
 use borrow.Author.Tests.{lt-ltb, le-ltb}
 use Rattle.rules.specs.Rules.{fit_by}
 use Rattle.rules.proofs.constant_fits.Goals as goal

@@ -2,7 +2,6 @@
 -- Assumes nothing.
 use mathlib.Core.Path.{◌∙◌}
 use mathlib.Core.List.{[], ◌∷◌}
-use borrow.Author.Rules.{rules}
 use Rattle.arena.specs.Lent.{areas_in}
 use Rattle.arena.specs.Elements.{element_of}
 use Rattle.rules.proofs.Arms.{told, fits}

@@ -1,7 +1,6 @@
 -- `rules::init_within` meets its contract, half by half.
 -- Assumes nothing.
 use mathlib.Core.Path.{◌∙◌}
-use borrow.Author.Rules.{rules}
 use borrow.Author.Tests.{eq-eqb, ne_eqb}
 use Rattle.definitions.specs.Areas.{N}
 use Rattle.rules.proofs.Arms.{or-first, or-second}

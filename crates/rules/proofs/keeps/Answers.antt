@@ -1,6 +1,5 @@
 -- `rules::keeps` meets its contract: each arm is given which rule it is.
 -- Assumes nothing.
-use borrow.Author.Rules.{rules}
 use Rattle.arena.specs.Lent.{areas_in}
 use Rattle.slots.specs.Codes.{slot_of}
 use Rattle.rules.specs.Rules.{asked}

@@ -6,7 +6,6 @@ use mathlib.Core.List.{[], ◌∷◌}
 use Prim.Native.Nat.{ℕ}
 use denote.Enum.Declared.{tag_of}
 use types.Run.{OneOf, miss}
-use borrow.Author.Rules.{rules}
 use Rattle.definitions.specs.Lists.{all}
 use Rattle.definitions.specs.Areas.{Areas}
 use Rattle.definitions.specs.Slots.{unused}

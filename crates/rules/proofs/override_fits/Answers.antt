@@ -1,6 +1,5 @@
 -- `rules::override_fits` meets its contract.
 -- Assumes nothing.
-use borrow.Author.Rules.{rules}
 use borrow.Author.Tests.{lt-ltb, le-ltb, eq-eqb, ne_eqb}
 use Rattle.rules.specs.Rules.{fit_by}
 use Rattle.rules.proofs.override_fits.Goals as goal

@@ -11,7 +11,7 @@ use lib.ListN.{length}
 use borrow.Author.Rules.{rules}
 use borrow.Author.Tests.{eq-eqb, ne_eqb}
 use Rattle.definitions.specs.Lists.{always, total}
-use Rattle.definitions.specs.Areas.{numbered, pool}
+use Rattle.definitions.specs.Areas.{numbered}
 use Rattle.definitions.specs.References.{span}
 use Rattle.definitions.specs.Refusals.{runs_before}
 use Rattle.definitions.proofs.ListLaws.{total-step, total_mono}

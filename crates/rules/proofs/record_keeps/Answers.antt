@@ -2,7 +2,6 @@
 -- Assumes nothing.
 use mathlib.Core.Path.{sym, ap, ◌∙◌}
 use native.Mathlib.Omega.{arith}
-use borrow.Author.Rules.{rules}
 use Rattle.definitions.specs.Areas.{numbered}
 use Rattle.definitions.specs.Slots.{slots, layout}
 use Rattle.definitions.specs.Refusals.{every}

@@ -3,7 +3,6 @@
 use mathlib.Core.Path.{◌≡◌, sym, ap, ◌∙◌}
 use Prim.Native.Nat.{ℕ, ◌+◌}
 use native.Mathlib.Numerals.{add-one}
-use borrow.Author.Rules.{rules}
 use borrow.Author.Tests.{eq-eqb, ne_eqb}
 use Rattle.definitions.specs.Areas.{N, Areas, types, overrides, word}
 use Rattle.definitions.specs.Order.{one_past, sized_by}

@@ -1,11 +1,9 @@
 -- `rules::slots_good` meets its contract. The loop's invariant: all words are good just where all that are left are.
 -- Assumes nothing.
-use mathlib.Core.Path.{◌≡◌, refl, sym, ap, ◌∙◌}
+use mathlib.Core.Path.{refl, sym, ap, ◌∙◌}
 use Prim.Native.Nat.{◌-◌}
 use native.Mathlib.Nat.{sub-zero}
 use native.Mathlib.Omega.{arith}
-use borrow.Author.Rules.{rules}
-use borrow.Author.Tests.{not-true, not-false}
 use Rattle.definitions.specs.Refusals.{every}
 use Rattle.arena.specs.Lent.{areas_in}
 use Rattle.slots.specs.Codes.{unpacked, words_from}

@@ -1,10 +1,8 @@
 -- `rules::slots_keep` meets its contract. The loop's invariant: all words keep the rule just where all that are left do.
 -- Assumes nothing.
-use mathlib.Core.Path.{◌≡◌, ap, ◌∙◌}
-use Prim.Native.Nat.{◌-◌, ◌≤◌}
+use mathlib.Core.Path.{ap, ◌∙◌}
 use native.Mathlib.Nat.{sub-zero}
 use borrow.Author.Rules.{rules}
-use borrow.Author.Tests.{not-true, not-false}
 use Rattle.definitions.specs.Refusals.{every}
 use Rattle.arena.specs.Lent.{areas_in}
 use Rattle.slots.specs.Codes.{unpacked, words_from}

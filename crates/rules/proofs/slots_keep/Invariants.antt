@@ -1,15 +1,11 @@
 -- `rules::slots_keep` meets its contract. The loop's invariant: all words keep the rule just where all that are left do.
 -- Assumes nothing.
-use mathlib.Core.Path.{◌≡◌, ap, ◌∙◌}
+use mathlib.Core.Path.{◌≡◌}
 use Prim.Native.Nat.{◌-◌, ◌≤◌}
-use native.Mathlib.Nat.{sub-zero}
-use borrow.Author.Rules.{rules}
-use borrow.Author.Tests.{not-true, not-false}
 use Rattle.definitions.specs.Refusals.{every}
 use Rattle.arena.specs.Lent.{areas_in}
 use Rattle.slots.specs.Codes.{unpacked, words_from}
 use Rattle.rules.specs.Rules.{asked}
-use Rattle.rules.proofs.Every.{turn, none_left, done}
 use Rattle.rules.proofs.slots_keep.Given as goal
 
 abbrev pub invariant-loop-k : goal.invariant-loop-k

@@ -5,7 +5,6 @@ use mathlib.Core.Bool.{Bool, true, false, not, ◌||◌, cond}
 use Prim.Native.Nat.{ℕ, ◌≤◌}
 use native.Mathlib.Omega.{arith}
 use lib.Dec.{ltb}
-use borrow.Author.Rules.{rules}
 use borrow.Author.Tests.{lt-ltb, le-ltb, ne_eqb}
 use Rattle.definitions.specs.Areas.{N}
 use Rattle.rules.proofs.typed_good.Goals as goal

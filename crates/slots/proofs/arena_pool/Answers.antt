@@ -6,7 +6,6 @@ use Rattle.definitions.specs.Areas.{numbered, pool}
 use Rattle.arena.specs.Lent.{words_at, areas_in}
 use Rattle.slots.proofs.Decision.{at-keys}
 use Rattle.slots.proofs.Numbered.{from-four, no-pool}
-use borrow.Author.Rules.{rules}
 use Rattle.slots.proofs.arena_pool.Goals as goal
 
 pub returns-in-0 : goal.returns-in-0

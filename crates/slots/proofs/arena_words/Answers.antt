@@ -1,7 +1,6 @@
 -- `slots::arena_words` meets its contract.
 -- Assumes nothing.
 use mathlib.Core.Path.{sym, ap}
-use borrow.Author.Rules.{rules}
 use Rattle.definitions.specs.Areas.{words}
 use Rattle.arena.specs.Lent.{areas_in}
 use Rattle.slots.proofs.Numbered.{from-four, slice-words}

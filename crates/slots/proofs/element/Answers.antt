@@ -3,7 +3,6 @@
 use mathlib.Core.Path.{sym, ap}
 use Rattle.definitions.specs.Areas.{at}
 use Rattle.slots.specs.Codes.{arena_of}
-use borrow.Author.Rules.{rules}
 use Rattle.slots.proofs.element.Goals as goal
 
 pub returns-in-Types : goal.returns-in-Types

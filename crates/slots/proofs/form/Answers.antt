@@ -3,7 +3,6 @@
 use mathlib.Core.Path.{sym, ◌∙◌}
 use Rattle.definitions.specs.Slots.{form_of}
 use borrow.Author.Tests.{eq-eqb, ne_eqb}
-use borrow.Author.Rules.{rules}
 use Rattle.slots.proofs.form.Goals as goal
 
 pub returns-then-kind-eq15 : goal.returns-then-kind-eq15

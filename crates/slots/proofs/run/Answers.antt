@@ -8,7 +8,6 @@ use lib.ListN.{length, take, drop, length-drop, drop_of_length-le}
 use lib.Seq.{take_all, take-length, take-nil}
 use native.Mathlib.Omega.{arith}
 use Rattle.slots.specs.Codes.{run_in}
-use borrow.Author.Rules.{rules}
 use Rattle.slots.proofs.run.Goals as goal
 
 -- a part whose ends are held to the list's length is the part

@@ -8,7 +8,6 @@ use Rattle.definitions.specs.Slots.{fill, body, type_body, expr_body}
 use Rattle.slots.specs.Codes.{code_of, packed, words_from}
 use Rattle.slots.proofs.Decision.{at-keys}
 use Rattle.slots.proofs.Numbered.{past_three}
-use borrow.Author.Rules.{rules}
 use Rattle.slots.proofs.shape.Goals as goal
 
 -- the shape v is that of the area's records

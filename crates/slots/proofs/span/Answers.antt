@@ -8,7 +8,6 @@ use borrow.Author.Tests.{eq-eqb, ne_eqb}
 use Rattle.definitions.specs.Areas.{numbered}
 use Rattle.slots.specs.Codes.{words_from, span_in}
 use Rattle.slots.proofs.Decision.{at-keys}
-use borrow.Author.Rules.{rules}
 use Rattle.slots.proofs.span.Goals as goal
 
 -- v is the count of the run of a record with those words

@@ -1,15 +1,11 @@
 -- `tandem::type_expression_tandem` meets its contract. The loop's invariant: what is left of the visits makes the whole.
 -- Assumes nothing.
-use mathlib.Core.Path.{◌≡◌, sym, ◌∙◌}
+use mathlib.Core.Path.{◌≡◌}
 use mathlib.Core.Logic.{⊎_elim, inl, inr}
 use Prim.Native.Nat.{ℕ, ◌+◌, ◌<◌}
 use native.Mathlib.Omega.{arith}
 use lib.ListN.{length-replicate}
-use borrow.Author.Rules.{rules}
-use borrow.Author.Tests.{ltb-true, ltb-false}
-use Rattle.arena.specs.Lent.{areas_in}
-use Rattle.tandem.specs.Deps.{Held}
-use Rattle.tandem.proofs.Turns.{Turns, at-start, one-visit, at-end}
+use Rattle.tandem.proofs.Turns.{at-start, one-visit, at-end}
 use Rattle.tandem.proofs.type_expression_tandem.Goals as goal
 
 pub fill_starts-requires : goal.fill_starts-requires

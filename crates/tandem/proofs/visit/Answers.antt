@@ -1,6 +1,5 @@
 -- `tandem::visit` meets its contract: the youngest expression is visited where it is above dep, else the youngest type.
 -- Assumes nothing.
-use borrow.Author.Rules.{rules}
 use Rattle.arena.specs.Lent.{areas_in}
 use Rattle.tandem.proofs.Turns.{some-type, visit-expression, visit-type}
 use Rattle.tandem.proofs.visit.Goals as goal

@@ -10,7 +10,6 @@ use Rattle.arena.specs.declared.handle_set.Bases.{Bases}
 use Rattle.arena.specs.Lent.{areas_in}
 use Rattle.trace.specs.Bits.{Marked}
 use Rattle.trace.proofs.Behind.{marked-as, marked-type, marked-expression}
-use borrow.Author.Rules.{rules}
 use Rattle.trace.proofs.mark.Goals as goal
 
 -- what holds of the element that the arm names holds of x

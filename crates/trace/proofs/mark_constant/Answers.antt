@@ -3,7 +3,6 @@
 use Rattle.arena.specs.Lent.{areas_in}
 use Rattle.trace.proofs.Sets.{put_one, put-more}
 use Rattle.trace.proofs.Behind.{marked-one, behind-constant}
-use borrow.Author.Rules.{rules}
 use Rattle.trace.proofs.mark_constant.Goals as goal
 
 pub returns : goal.returns

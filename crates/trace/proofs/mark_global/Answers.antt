@@ -2,7 +2,6 @@
 -- Assumes nothing.
 use Rattle.arena.specs.Lent.{areas_in}
 use Rattle.trace.proofs.Behind.{marked-one, behind-global}
-use borrow.Author.Rules.{rules}
 use Rattle.trace.proofs.mark_global.Goals as goal
 
 pub returns : goal.returns

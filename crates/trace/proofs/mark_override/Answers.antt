@@ -2,7 +2,6 @@
 -- Assumes nothing.
 use Rattle.arena.specs.Lent.{areas_in}
 use Rattle.trace.proofs.Behind.{marked-one, behind-override}
-use borrow.Author.Rules.{rules}
 use Rattle.trace.proofs.mark_override.Goals as goal
 
 pub returns : goal.returns

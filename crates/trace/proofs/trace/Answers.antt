@@ -11,7 +11,6 @@ use Rattle.arena.specs.HandleSet.{bit, member}
 use Rattle.arena.specs.declared.handle_set.Bases.{Bases}
 use Rattle.slots.proofs.Places.{place-fits}
 use Rattle.trace.proofs.Visit.{marked-references, marked-slots, visit-marked, visit-unmarked}
-use borrow.Author.Rules.{rules}
 use Rattle.trace.proofs.trace.Goals as goal
 
 -- the test is that of the record

@@ -4,7 +4,6 @@ use mathlib.Core.Path.{sym, ◌∙◌}
 use Rattle.definitions.specs.Areas.{at, expressions, numbered}
 use Rattle.arena.specs.Lent.{areas_in}
 use Rattle.trace.proofs.Visit.{visit-unmarked}
-use borrow.Author.Rules.{rules}
 use Rattle.trace.proofs.trace_expression.Goals as goal
 
 pub returns-then-contains : goal.returns-then-contains

@@ -2,14 +2,14 @@
 -- Assumes nothing.
 use mathlib.Core.Path.{◌≡◌, sym, ap, ap₂, ◌∙◌}
 use mathlib.Core.List.{List, [], ◌∷◌, map}
-use Prim.Native.Nat.{ℕ, ◌+◌, ◌-◌, ◌≤◌, ◌<◌}
+use Prim.Native.Nat.{ℕ, ◌+◌, ◌≤◌, ◌<◌}
 use native.Mathlib.Numerals.{add-one}
-use lib.ListN.{length, get_or, drop, drop_of_length-le}
+use lib.ListN.{length, get_or, drop_of_length-le}
 use lib.Seq.{drop-cons}
 use Rattle.definitions.specs.Areas.{Arena, Elem, at, numbered}
 use Rattle.arena.specs.HandleSet.{bit}
 use Rattle.arena.specs.declared.handle_set.Bases.{Bases}
-use Rattle.trace.proofs.Sets.{Left, put_one, left-turn, left-done}
+use Rattle.trace.proofs.Sets.{put_one, left-turn, left-done}
 use borrow.Author.Rules.{rules}
 use Rattle.trace.proofs.trace_run.Invariants.{from}
 use Rattle.trace.proofs.trace_run.Goals as goal

@@ -1,16 +1,12 @@
 -- `trace::trace_run` meets its contract. The loop's invariant: the handles that are left are left to put in.
 -- Assumes nothing.
-use mathlib.Core.Path.{◌≡◌, sym, ap, ap₂, ◌∙◌}
-use mathlib.Core.List.{List, [], ◌∷◌, map}
-use Prim.Native.Nat.{ℕ, ◌+◌, ◌-◌, ◌≤◌, ◌<◌}
-use native.Mathlib.Numerals.{add-one}
-use lib.ListN.{length, get_or, drop, drop_of_length-le}
-use lib.Seq.{drop-cons}
-use Rattle.definitions.specs.Areas.{Arena, Elem, at, numbered}
+use mathlib.Core.List.{List, map}
+use Prim.Native.Nat.{ℕ, ◌-◌, ◌≤◌}
+use lib.ListN.{length, drop}
+use Rattle.definitions.specs.Areas.{at, numbered}
 use Rattle.arena.specs.HandleSet.{bit}
 use Rattle.arena.specs.declared.handle_set.Bases.{Bases}
-use Rattle.trace.proofs.Sets.{Left, put_one, left-turn, left-done}
-use borrow.Author.Rules.{rules}
+use Rattle.trace.proofs.Sets.{Left}
 use Rattle.trace.proofs.trace_run.Given as goal
 
 -- the bits of the handles from i on

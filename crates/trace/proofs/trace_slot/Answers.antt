@@ -6,7 +6,6 @@ use Prim.Native.Nat.{ℕ}
 use native.Mathlib.Decide.{dec_le}
 use native.Mathlib.Omega.{arith}
 use lib.ListN.{get_or-eq_default}
-use borrow.Author.Rules.{rules}
 use borrow.Author.Tests.{eq-eqb, ne_eqb}
 use Rattle.definitions.specs.Areas.{N, Elem, at, types, constants, overrides, expressions}
 use Rattle.definitions.specs.Slots.{unused}

@@ -5,13 +5,10 @@ use mathlib.Core.List.{[], ◌++◌}
 use Prim.Native.Nat.{ℕ, suc, ◌+◌, ◌-◌, ◌/◌, ◌%◌, ◌≤◌, ◌<◌}
 use native.Mathlib.Numerals.{add-one}
 use native.Mathlib.Omega.{arith}
-use borrow.Author.Tests.{eqb-true, not-false}
 use Rattle.definitions.specs.References.{named_by, named_from}
 use Rattle.slots.specs.Codes.{decoded, unpacked, words_from}
 use Rattle.arena.specs.Lent.{areas_in}
 use Rattle.slots.proofs.Laws.{named_none}
-use Rattle.trace.specs.Bits.{bits_of}
-use Rattle.trace.proofs.Sets.{Left}
 use Rattle.trace.proofs.Behind.{marked_turn, marked-done}
 use borrow.Author.Rules.{rules}
 use Rattle.trace.proofs.trace_slots.Goals as goal

@@ -1,7 +1,6 @@
 -- `adjust::handles::element_after` meets its contract: each arm is given which element x is.
 -- Assumes nothing.
 use mathlib.Core.Path.{◌≡◌, sym, ap, ◌∙◌}
-use borrow.Author.Rules.{rules}
 use Rattle.definitions.specs.Areas.{Elem, at, types, constants, overrides, globals, expressions}
 use Rattle.definitions.specs.Outcome.{Maps, map_of}
 use Rattle.arena.specs.declared.Element.{Element}

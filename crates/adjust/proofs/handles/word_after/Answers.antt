@@ -1,7 +1,6 @@
 -- `adjust::handles::word_after` meets its contract: the word's element, by the map of its arena, as a word.
 -- Assumes nothing.
 use mathlib.Core.Path.{ap, ◌∙◌}
-use borrow.Author.Rules.{rules}
 use Rattle.arena.specs.Elements.{handle_of}
 use Rattle.adjust.specs.Rewrite.{element_by}
 use Rattle.adjust.proofs.handles.word_after.Goals as goal

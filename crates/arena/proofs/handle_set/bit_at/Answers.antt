@@ -2,7 +2,6 @@
 use mathlib.Core.Path.{sym, ap}
 use mathlib.Core.Bool.{cond}
 use native.Mathlib.Omega.{arith}
-use borrow.Author.Rules.{rules}
 use Rattle.arena.specs.HandleSet.{member}
 use Rattle.arena.proofs.Digits.{digit-number}
 use Rattle.arena.proofs.Sets.{member-past}

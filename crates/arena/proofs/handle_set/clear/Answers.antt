@@ -1,9 +1,9 @@
 -- The loop's invariant: the words passed are 0, and the rest are as they were. Assumes nothing.
-use mathlib.Core.Path.{◌≡◌, refl, ap, ◌∙◌}
-use mathlib.Core.List.{List, ◌++◌}
-use Prim.Native.Nat.{ℕ, ◌-◌, ◌≤◌}
+use mathlib.Core.Path.{refl, ap, ◌∙◌}
+use mathlib.Core.List.{List}
+use Prim.Native.Nat.{ℕ}
 use native.Mathlib.Omega.{arith}
-use lib.ListN.{length, set, drop, replicate, length-set}
+use lib.ListN.{set, length-set}
 use borrow.Author.Fill.{fill_more}
 use borrow.Author.Rules.{rules}
 use Rattle.arena.proofs.Sets.{filled}

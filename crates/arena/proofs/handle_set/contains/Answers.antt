@@ -1,6 +1,5 @@
 -- What `contains_bit` says of the element's bit. Assumes nothing.
 use mathlib.Core.Path.{ap, ◌∙◌}
-use borrow.Author.Rules.{rules}
 use Rattle.arena.specs.HandleSet.{member}
 use Rattle.arena.proofs.handle_set.contains.Goals as goal
 

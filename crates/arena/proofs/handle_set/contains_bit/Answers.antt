@@ -1,7 +1,6 @@
 -- Bit i of the words; past their end it is not set. Assumes nothing.
 use mathlib.Core.Path.{refl, sym}
 use native.Mathlib.Omega.{arith}
-use borrow.Author.Rules.{rules}
 use Rattle.arena.specs.HandleSet.{member}
 use Rattle.arena.proofs.Sets.{member-past}
 use Rattle.arena.proofs.handle_set.contains_bit.Goals as goal

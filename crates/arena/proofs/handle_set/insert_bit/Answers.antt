@@ -1,5 +1,4 @@
 -- The word with bit i set; past the words' end nothing is written. Assumes nothing.
-use borrow.Author.Rules.{rules}
 use Rattle.arena.proofs.Sets.{inserted, inserted-past}
 use Rattle.arena.proofs.handle_set.insert_bit.Goals as goal
 

@@ -1,7 +1,6 @@
 -- The length of the slice, or 0 past the last. Assumes nothing.
 use Rattle.arena.specs.Lent.{areas_in}
 use Rattle.arena.proofs.Lent.{length_at, length-past}
-use borrow.Author.Rules.{rules}
 use Rattle.arena.proofs.records.length.Goals as goal
 
 pub returns-then-area : goal.returns-then-area

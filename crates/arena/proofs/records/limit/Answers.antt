@@ -1,7 +1,6 @@
 -- The table is the definition's list. Assumes nothing.
 use mathlib.Core.Path.{refl, sym}
 use lib.ListN.{get_or-eq_default}
-use borrow.Author.Rules.{rules}
 use Rattle.definitions.specs.Areas.{limits}
 use Rattle.arena.proofs.records.limit.Goals as goal
 

@@ -1,7 +1,6 @@
 -- The table is the definition's list. Assumes nothing.
 use mathlib.Core.Path.{sym}
 use lib.ListN.{get_or-eq_default}
-use borrow.Author.Rules.{rules}
 use Rattle.definitions.specs.Areas.{width, widths}
 use Rattle.definitions.proofs.Judged.{get_or-any}
 use Rattle.arena.proofs.records.width.Goals as goal

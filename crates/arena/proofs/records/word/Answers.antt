@@ -1,7 +1,6 @@
 -- The word, or 0 past the end. Assumes nothing.
 use mathlib.Core.Path.{sym}
 use lib.ListN.{get_or-eq_default}
-use borrow.Author.Rules.{rules}
 use Rattle.arena.proofs.records.word.Goals as goal
 
 pub returns : goal.returns

@@ -3,9 +3,7 @@
 use Rattle.compact.proofs.Close.{accepts, judges-accepted, judges-refused}
 use Rattle.definitions.specs.Areas.{areas_of}
 use Rattle.arena.specs.Lent.{maps_of}
-use borrow.Author.Rules.{rules}
 use Rattle.compact.proofs.judge.judge.Goals as goal
-
 
 pub returns-in-Refused : goal.returns-in-Refused
 returns-in-Refused c =

@@ -1,9 +1,7 @@
 -- `judge::mark` meets its contract: emptied words, the roots, then every visit.
 -- Assumes nothing.
 use Rattle.compact.proofs.Marking.{marking}
-use borrow.Author.Rules.{rules}
 use Rattle.compact.proofs.judge.mark.Goals as goal
-
 
 pub returns : goal.returns
 returns c =

@@ -2,9 +2,7 @@
 -- Assumes nothing.
 use Rattle.compact.proofs.Numbers.{numbers-made}
 use Rattle.arena.specs.Lent.{maps_of}
-use borrow.Author.Rules.{rules}
 use Rattle.compact.proofs.number.number.Goals as goal
-
 
 pub returns : goal.returns
 returns c =

@@ -3,9 +3,7 @@
 use Rattle.compact.proofs.Rewrites.{stays, by-maps}
 use Rattle.definitions.specs.Areas.{areas_of}
 use Rattle.arena.specs.Lent.{maps_of}
-use borrow.Author.Rules.{rules}
 use Rattle.compact.proofs.rewrite.rewrite.Goals as goal
-
 
 pub returns-then-all_kept : goal.returns-then-all_kept
 returns-then-all_kept c =

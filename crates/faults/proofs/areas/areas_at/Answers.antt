@@ -1,9 +1,7 @@
 -- `areas::areas_at` meets its contract.
 -- Assumes nothing.
 use mathlib.Core.Path.{sym}
-use mathlib.Core.Logic.{⊎_elim}
 use native.Mathlib.Omega.{arith}
-use borrow.Author.Rules.{rules}
 use Rattle.faults.proofs.Lengths.{all-areas, arenas}
 use Rattle.faults.proofs.areas.areas_at.Goals as goal
 use Rattle.faults.proofs.areas.areas_at.Goals.{in_default-via-then-number-lt1, in_default-via-else-number-lt1+else-number-lt3}

@@ -3,7 +3,6 @@
 use mathlib.Core.Path.{sym, subst}
 use Prim.Native.Nat.{◌<◌}
 use native.Mathlib.Omega.{arith}
-use borrow.Author.Rules.{rules}
 use Rattle.arena.specs.Lent.{areas_in}
 use Rattle.faults.proofs.Lengths.{arenas, areas-le, wide, whole, few, roomy}
 use Rattle.faults.proofs.areas.fine.Goals as goal

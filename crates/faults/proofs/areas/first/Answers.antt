@@ -1,13 +1,8 @@
 -- `areas::first` meets its contract. The loop carries that the areas from here on decide.
 -- Assumes nothing.
-use mathlib.Core.Path.{◌≡◌, sym, ap, ◌∙◌}
-use Prim.Native.Nat.{◌-◌}
+use mathlib.Core.Path.{sym, ap, ◌∙◌}
 use native.Mathlib.Omega.{arith}
-use borrow.Author.Tests.{not-true, not-false}
-use borrow.Author.Rules.{rules}
-use Rattle.definitions.specs.Refusals.{refused, scan, scan_areas}
-use Rattle.arena.specs.Lent.{areas_in}
-use Rattle.faults.specs.Checking.{area_ok, areas_at}
+use Rattle.definitions.specs.Refusals.{scan_areas}
 use Rattle.faults.proofs.Lengths.{areas-le}
 use Rattle.faults.proofs.Scans.{scan-whole, scan-on, scan-stop, scan-end}
 use Rattle.faults.proofs.areas.first.Goals as goal

@@ -1,15 +1,10 @@
 -- `areas::first` meets its contract. The loop carries that the areas from here on decide.
 -- Assumes nothing.
-use mathlib.Core.Path.{◌≡◌, sym, ap, ◌∙◌}
+use mathlib.Core.Path.{◌≡◌}
 use Prim.Native.Nat.{◌-◌}
-use native.Mathlib.Omega.{arith}
-use borrow.Author.Tests.{not-true, not-false}
-use borrow.Author.Rules.{rules}
 use Rattle.definitions.specs.Refusals.{refused, scan, scan_areas}
 use Rattle.arena.specs.Lent.{areas_in}
 use Rattle.faults.specs.Checking.{area_ok, areas_at}
-use Rattle.faults.proofs.Lengths.{areas-le}
-use Rattle.faults.proofs.Scans.{scan-whole, scan-on, scan-stop, scan-end}
 use Rattle.faults.proofs.areas.first.Given as goal
 
 abbrev pub invariant-loop-area : goal.invariant-loop-area

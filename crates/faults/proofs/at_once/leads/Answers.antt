@@ -1,6 +1,5 @@
 -- `at_once::leads` meets its contract.
 -- Assumes nothing.
-use borrow.Author.Rules.{rules}
 use borrow.Author.Tests.{eq-eqb, ne_eqb}
 use Rattle.faults.proofs.at_once.leads.Goals as goal
 

@@ -1,18 +1,9 @@
 -- `at_once::passes` meets its contract. The loop carries that all arenas so far pass.
 -- Assumes nothing.
-use mathlib.Core.Path.{◌≡◌, subst, sym}
-use Prim.Native.Nat.{ℕ, ◌+◌, ◌-◌, ◌<◌}
-use native.Mathlib.Decide.{ℕ_discrete}
-use native.Mathlib.Nat.{not-suc-le-zero}
-use native.Mathlib.Omega.{arith}
-use borrow.Author.Rules.{rules}
-use borrow.Author.Tests.{not-false}
+use Prim.Native.Nat.{ℕ, ◌-◌, ◌<◌}
 use Rattle.definitions.specs.Areas.{Areas, numbered}
 use Rattle.arena.specs.Lent.{areas_in}
-use Rattle.arena.specs.Sizes.{sizes_of}
 use Rattle.faults.specs.Checking.{Passed, Used}
-use Rattle.faults.proofs.Arenas.{sizes-are}
-use Rattle.faults.proofs.AtOnce.{not-both, no-fault}
 use Rattle.faults.proofs.at_once.passes.Given as goal
 
 -- the first n arenas pass

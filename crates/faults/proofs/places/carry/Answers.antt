@@ -4,9 +4,7 @@ use mathlib.Core.Path.{sym, ap, subst}
 use mathlib.Core.Logic.{inl, inr, ⊎_elim}
 use Prim.Native.Nat.{◌-◌, ◌≤◌}
 use native.Mathlib.Omega.{arith}
-use borrow.Author.Tests.{eqb-true, eqb-false}
-use borrow.Author.Rules.{rules}
-use Rattle.definitions.specs.Areas.{Areas, numbered}
+use Rattle.definitions.specs.Areas.{numbered}
 use Rattle.arena.specs.Lent.{areas_in}
 use Rattle.faults.specs.Checking.{most}
 use Rattle.faults.proofs.Carries.{no-counts, no-leading, nothing-else, carried-le, counts, leads}

@@ -1,13 +1,11 @@
 -- `places::fine` meets its contract.
 -- Assumes nothing.
 use mathlib.Core.Path.{◌≡◌, subst}
-use Prim.Native.Nat.{◌≤◌, ◌<◌}
+use Prim.Native.Nat.{◌≤◌}
 use native.Mathlib.Omega.{arith}
-use borrow.Author.Rules.{rules}
-use Rattle.definitions.specs.Areas.{Areas}
 use Rattle.arena.specs.Lent.{areas_in}
 use Rattle.arena.specs.Sizes.{sizes_of}
-use Rattle.faults.specs.Checking.{ok_at, places_in}
+use Rattle.faults.specs.Checking.{ok_at}
 use Rattle.faults.proofs.Tests.{looks-there, pool-four, mention-four-six, members-used, components-used}
 use Rattle.faults.proofs.places.fine.Goals as goal
 

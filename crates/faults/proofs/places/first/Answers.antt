@@ -1,21 +1,16 @@
 -- `places::first` meets its contract. The outer loop carries that the areas from here on decide, the inner one that the rest of the area and the areas after it do.
 -- Assumes nothing.
 use mathlib.Core.Bool.{not}
-use mathlib.Core.Path.{◌≡◌, refl, sym, ap, subst, ◌∙◌}
-use mathlib.Core.Logic.{⊎_elim}
-use Prim.Native.Nat.{ℕ, ◌-◌, ◌<◌}
+use mathlib.Core.Path.{refl, sym, ap, subst, ◌∙◌}
+use Prim.Native.Nat.{ℕ, ◌<◌}
 use native.Mathlib.Omega.{arith}
-use borrow.Author.Rules.{rules}
-use Rattle.definitions.specs.Areas.{Areas}
 use Rattle.definitions.specs.Refusals.{Verdict, accepted, refused}
 use Rattle.arena.specs.Lent.{areas_in}
-use Rattle.arena.specs.Sizes.{sizes_of}
 use Rattle.faults.specs.declared.places.Place.{Place}
 use Rattle.faults.specs.declared.places.Place.TheVariants.{At, Nowhere}
-use Rattle.faults.specs.Checking.{carried_to, in_turn, scan_area, places_at}
 use Rattle.faults.proofs.Arenas.{sizes-are}
 use Rattle.faults.proofs.Carries.{handed-none, handed-on}
-use Rattle.faults.proofs.Walk.{places-are, AreasLeft, PlacesLeft, done, enter, next, fault, leave}
+use Rattle.faults.proofs.Walk.{places-are, done, enter, next, fault, leave}
 use Rattle.faults.proofs.places.first.Goals as goal
 use Rattle.faults.proofs.places.first.Goals.{then-area-ge-AREAS, else-area-ge-AREAS+then-loop-i-test+then-not-fine}
 
@@ -28,11 +23,10 @@ pub areas-init : goal.areas-init
 areas-init c = refl
 
 pub loop-i-init : goal.loop-i-init
-loop-i-init c =
-    (
-      handed-none (areas_in c.args.m.now) c.args.number c.areas.area,
-      enter (areas_in c.args.m.now) c.args.number c.areas.area _ c.if-area-ge-AREAS.false (places-are (areas_in c.args.m.now) c.args.number c.areas.area (sizes-are (areas_in c.args.m.now) c.requires.measured c.of-z.ensures) c.places-n.ensures) c.areas.invariant,
-    )
+loop-i-init c = (
+  handed-none (areas_in c.args.m.now) c.args.number c.areas.area,
+  enter (areas_in c.args.m.now) c.args.number c.areas.area _ c.if-area-ge-AREAS.false (places-are (areas_in c.args.m.now) c.args.number c.areas.area (sizes-are (areas_in c.args.m.now) c.requires.measured c.of-z.ensures) c.places-n.ensures) c.areas.invariant,
+)
 
 pub carry-carried-requires : goal.carry-carried-requires
 carry-carried-requires c = record { z_value = (sizes-are (areas_in c.args.m.now) c.requires.measured c.of-z.ensures); before_value = c.loop-i.invariant.0 }
@@ -49,11 +43,10 @@ pub overflow_add-i : goal.overflow_add-i
 overflow_add-i c = omega arith
 
 pub loop-i-preserved : goal.loop-i-preserved
-loop-i-preserved c =
-    (
-      handed-on (areas_in c.args.m.now) c.args.number c.areas.area c.loop-i.i c.carry-carried.ensures,
-      next (areas_in c.args.m.now) c.args.number c.areas.area _ c.loop-i.i c.loop-i-test.true c.fine.ensures (ap not c.if-not-fine.false) c.loop-i.invariant.1,
-    )
+loop-i-preserved c = (
+  handed-on (areas_in c.args.m.now) c.args.number c.areas.area c.loop-i.i c.carry-carried.ensures,
+  next (areas_in c.args.m.now) c.args.number c.areas.area _ c.loop-i.i c.loop-i-test.true c.fine.ensures (ap not c.if-not-fine.false) c.loop-i.invariant.1,
+)
 
 pub overflow_add-area : goal.overflow_add-area
 overflow_add-area c = omega arith
@@ -69,7 +62,7 @@ returns-in-At c = ap (placed c.args.number) (sym c.in-At.is) ∙ elim c.if-area-
   | else-area-ge-AREAS+then-loop-i-test+then-not-fine w ↦
       ap (placed c.args.number) w.place-is
       ∙ fault (areas_in c.args.m.now) c.args.number c.areas.area _ w.loop-i.i w.loop-i-test.true w.fine.ensures (ap not w.if-not-fine.true)
-        w.loop-i.invariant.1
+      w.loop-i.invariant.1
 ]
 
 pub returns-in-Nowhere : goal.returns-in-Nowhere
@@ -79,5 +72,5 @@ returns-in-Nowhere c = ap (placed c.args.number) (sym c.in-Nowhere.is) ∙ elim 
   | else-area-ge-AREAS+then-loop-i-test+then-not-fine w ↦
       ap (placed c.args.number) w.place-is
       ∙ fault (areas_in c.args.m.now) c.args.number c.areas.area _ w.loop-i.i w.loop-i-test.true w.fine.ensures (ap not w.if-not-fine.true)
-        w.loop-i.invariant.1
+      w.loop-i.invariant.1
 ]

@@ -1,20 +1,10 @@
 -- `places::first` meets its contract. The outer loop carries that the areas from here on decide, the inner one that the rest of the area and the areas after it do.
 -- Assumes nothing.
-use mathlib.Core.Path.{◌≡◌, refl, sym, ap, subst, ◌∙◌}
-use mathlib.Core.Logic.{⊎_elim}
-use Prim.Native.Nat.{ℕ, ◌-◌, ◌<◌}
-use native.Mathlib.Omega.{arith}
-use borrow.Author.Rules.{rules}
-use Rattle.definitions.specs.Areas.{Areas}
-use Rattle.definitions.specs.Refusals.{Verdict, accepted, refused}
+use mathlib.Core.Path.{◌≡◌}
+use Prim.Native.Nat.{◌-◌}
 use Rattle.arena.specs.Lent.{areas_in}
-use Rattle.arena.specs.Sizes.{sizes_of}
-use Rattle.faults.specs.declared.places.Place.{Place}
-use Rattle.faults.specs.declared.places.Place.TheVariants.{At, Nowhere}
-use Rattle.faults.specs.Checking.{carried_to, in_turn, scan_area, places_at}
-use Rattle.faults.proofs.Arenas.{sizes-are}
-use Rattle.faults.proofs.Carries.{handed-none, handed-on}
-use Rattle.faults.proofs.Walk.{places-are, AreasLeft, PlacesLeft, done, enter, next, fault, leave}
+use Rattle.faults.specs.Checking.{carried_to}
+use Rattle.faults.proofs.Walk.{AreasLeft, PlacesLeft}
 use Rattle.faults.proofs.places.first.Given as goal
 
 abbrev pub invariant-loop-i : goal.invariant-loop-i

@@ -1,15 +1,9 @@
 -- `places::held_at` meets its contract.
 -- Assumes nothing.
-use mathlib.Core.Path.{◌≡◌, refl}
-use Prim.Native.Nat.{ℕ}
-use borrow.Author.Tests.{not-true, not-false}
-use borrow.Author.Rules.{rules}
-use Rattle.definitions.specs.Areas.{Areas, numbered}
-use Rattle.definitions.specs.Refusals.{held_at}
+use mathlib.Core.Path.{refl}
+use Rattle.definitions.specs.Areas.{numbered}
 use Rattle.arena.specs.Lent.{areas_in}
-use Rattle.rules.specs.declared.Rule.TheVariants.{Held}
-use Rattle.arena.specs.Sizes.{size_in}
-use Rattle.faults.proofs.Records.{Asks, held-record, words-fail, run-decides}
+use Rattle.faults.proofs.Records.{held-record, words-fail, run-decides}
 use Rattle.faults.proofs.places.held_at.Goals as goal
 
 pub returns-then-not-record_keeps : goal.returns-then-not-record_keeps

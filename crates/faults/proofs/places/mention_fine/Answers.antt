@@ -1,9 +1,7 @@
 -- `places::mention_fine` meets its contract.
 -- Assumes nothing.
 use mathlib.Core.Logic.{⊎_elim}
-use Rattle.definitions.specs.Areas.{Areas}
 use Rattle.arena.specs.Lent.{areas_in}
-use borrow.Author.Rules.{rules}
 use Rattle.faults.proofs.Tests.{mention-area, mention-handle}
 use Rattle.faults.proofs.places.mention_fine.Goals as goal
 

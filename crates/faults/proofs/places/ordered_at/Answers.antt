@@ -1,23 +1,17 @@
 -- `places::ordered_at` meets its contract.
 -- Assumes nothing.
-use mathlib.Core.Path.{◌≡◌, ap}
-use borrow.Author.Tests.{not-true, not-false}
-use borrow.Author.Rules.{rules}
-use Rattle.definitions.specs.Areas.{Areas, numbered}
-use Rattle.definitions.specs.Order.{well_ordered}
+use mathlib.Core.Path.{ap}
+use Rattle.definitions.specs.Areas.{numbered}
 use Rattle.arena.specs.Lent.{areas_in}
-use Rattle.rules.specs.declared.Rule.TheVariants.{Ordered}
-use Rattle.rules.specs.declared.Bounds.{Bounds}
-use Rattle.faults.specs.Checking.{bounds_at}
-use Rattle.faults.proofs.Records.{Asks, ordered-record, words-fail, run-decides}
+use Rattle.faults.proofs.Records.{ordered-record, words-fail, run-decides}
 use Rattle.faults.proofs.places.ordered_at.Goals as goal
 
 pub returns-then-not-record_keeps : goal.returns-then-not-record_keeps
 returns-then-not-record_keeps c =
     words-fail (areas_in c.args.m.now) (numbered c.args.area) c.args.i _ _ (ordered-record (areas_in c.args.m.now) c.args.i c.requires.measured.0.whole c.args.area c.args.before c.args.z.types (ap (λ z. z.types) c.requires.measured.1)
-        c.requires.area_value _ c.bounds-b.ensures) c.record_keeps.ensures c.if-not-record_keeps.true
+    c.requires.area_value _ c.bounds-b.ensures) c.record_keeps.ensures c.if-not-record_keeps.true
 
 pub returns : goal.returns
 returns c =
     run-decides (areas_in c.args.m.now) (numbered c.args.area) c.args.i _ _ (ordered-record (areas_in c.args.m.now) c.args.i c.requires.measured.0.whole c.args.area c.args.before c.args.z.types (ap (λ z. z.types) c.requires.measured.1)
-        c.requires.area_value _ c.bounds-b.ensures) c.record_keeps.ensures c.if-not-record_keeps.false c.run_at.ensures c.all_below.ensures
+    c.requires.area_value _ c.bounds-b.ensures) c.record_keeps.ensures c.if-not-record_keeps.false c.run_at.ensures c.all_below.ensures

@@ -1,7 +1,6 @@
 -- `places::own_size` meets its contract.
 -- Assumes nothing.
 use mathlib.Core.Path.{ap, ◌∙◌}
-use borrow.Author.Rules.{rules}
 use Rattle.arena.specs.Sizes.{size_in}
 use Rattle.faults.proofs.places.own_size.Goals as goal
 

@@ -2,8 +2,6 @@
 -- Assumes nothing.
 use mathlib.Core.Path.{sym, ◌∙◌}
 use mathlib.Core.Logic.{inl, inr, ⊎_elim}
-use borrow.Author.Tests.{eqb-true, eqb-false}
-use borrow.Author.Rules.{rules}
 use Rattle.faults.proofs.Tests.{records, no-records, one-pool, no-pool, mentions, no-mentions}
 use Rattle.faults.proofs.places.places.Goals as goal
 

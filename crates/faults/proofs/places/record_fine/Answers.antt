@@ -1,9 +1,7 @@
 -- `places::record_fine` meets its contract.
 -- Assumes nothing.
-use mathlib.Core.Path.{◌≡◌, ap}
+use mathlib.Core.Path.{ap}
 use native.Mathlib.Omega.{arith}
-use borrow.Author.Rules.{rules}
-use Rattle.definitions.specs.Areas.{Areas}
 use Rattle.arena.specs.Lent.{areas_in}
 use Rattle.faults.proofs.Tests.{seven-looks, record-four, record-six, record-seven, kind-thirteen, kind-other}
 use Rattle.faults.proofs.Carries.{carried-counts, carried-leads}
@@ -20,7 +18,7 @@ ordered_at-requires c = record {
   measured = c.requires.measured;
   area_value =
       carried-leads (areas_in c.args.m.now) c.args.number c.args.area c.args.i c.args.z.types c.requires.carried_value (omega (arith, c.in_default.in_default-own.rest.0.0.1, c.in_default.in_default-own.rest.0.1, c.in_default.in_default-own.rest.1)) (ap (λ z. z.types) c.requires.measured.1)
-          (seven-looks c.args.number c.args.area (omega (arith, c.in_default.in_default-own.rest.0.0.1, c.in_default.in_default-own.rest.0.1, c.in_default.in_default-own.rest.1)) c.requires.area_bound.1);
+      (seven-looks c.args.number c.args.area (omega (arith, c.in_default.in_default-own.rest.0.0.1, c.in_default.in_default-own.rest.0.1, c.in_default.in_default-own.rest.1)) c.requires.area_bound.1);
 }
 
 pub returns-in-4 : goal.returns-in-4

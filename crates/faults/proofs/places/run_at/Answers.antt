@@ -1,7 +1,6 @@
 -- `places::run_at` meets its contract.
 -- Assumes nothing.
 use native.Mathlib.Omega.{arith}
-use borrow.Author.Rules.{rules}
 use Rattle.definitions.specs.Areas.{numbered}
 use Rattle.arena.specs.Lent.{areas_in}
 use Rattle.slots.proofs.Places.{place-fits, record-run}

@@ -3,8 +3,7 @@
 use mathlib.Core.Path.{ap, ◌∙◌}
 use native.Mathlib.Omega.{arith}
 use lib.ListN.{length}
-use borrow.Author.Rules.{rules}
-use Rattle.definitions.specs.Areas.{Areas, numbered}
+use Rattle.definitions.specs.Areas.{numbered}
 use Rattle.arena.specs.Lent.{areas_in}
 use Rattle.slots.proofs.Places.{place-fits, record-span}
 use Rattle.faults.proofs.Records.{shaped-record}

@@ -6,7 +6,6 @@ use Prim.Native.Nat.{ℕ, ◌≤◌}
 use native.Mathlib.Decide.{dec_le}
 use native.Mathlib.Omega.{arith}
 use lib.ListN.{get_or-eq_default}
-use borrow.Author.Rules.{rules}
 use Rattle.definitions.specs.Slots.{below, fill, expr_body, expr_slots, level_slots, query_slots}
 use Rattle.slots.specs.Codes.{code_of, packed}
 use Rattle.slots.proofs.Decision.{NoneOf, at-keys, in-range}

@@ -1,7 +1,6 @@
 -- `tandem::deps::deepest` meets its contract. The loop's invariant: `deep` is what the types before t have.
 -- Assumes nothing.
 use mathlib.Core.Path.{◌≡◌, ap, ◌∙◌}
-use Prim.Native.Nat.{◌≤◌, ◌-◌}
 use native.Mathlib.Omega.{arith}
 use borrow.Author.Rules.{rules}
 use Rattle.arena.specs.Lent.{areas_in}

@@ -1,12 +1,9 @@
 -- `tandem::deps::deepest` meets its contract. The loop's invariant: `deep` is what the types before t have.
 -- Assumes nothing.
-use mathlib.Core.Path.{◌≡◌, ap, ◌∙◌}
+use mathlib.Core.Path.{◌≡◌}
 use Prim.Native.Nat.{◌≤◌, ◌-◌}
-use native.Mathlib.Omega.{arith}
-use borrow.Author.Rules.{rules}
 use Rattle.arena.specs.Lent.{areas_in}
 use Rattle.tandem.specs.Deps.{dep_before}
-use Rattle.tandem.proofs.Filling.{dep-more}
 use Rattle.tandem.proofs.deps.deepest.Given as goal
 
 abbrev pub invariant-loop-t : goal.invariant-loop-t

@@ -1,7 +1,6 @@
 -- `tandem::deps::dep_before` meets its contract: a type lies in the block of its number by 256.
 -- Assumes nothing.
 use mathlib.Core.Path.{◌≡◌, sym, ap, ◌∙◌}
-use mathlib.Core.Logic.{⊎_elim}
 use mathlib.Core.List.{List}
 use Prim.Native.Nat.{ℕ, ◌<◌, ◌+◌, ◌*◌, ◌/◌, ◌%◌, ◌-◌}
 use native.Mathlib.Omega.{arith}

@@ -1,14 +1,13 @@
 -- `tandem::deps::fill_block` meets its contract. The loop's invariant: j entries stand, and `deep` is what the types before the next have.
 -- Assumes nothing.
 use mathlib.Core.Path.{◌≡◌, refl, ap, ◌∙◌}
-use mathlib.Core.Logic.{⊎_elim}
-use Prim.Native.Nat.{◌≤◌, ◌+◌, ◌*◌, ◌-◌}
+use Prim.Native.Nat.{◌+◌, ◌*◌}
 use native.Mathlib.Nat.{add_assoc}
 use native.Mathlib.Omega.{arith}
 use borrow.Author.Rules.{rules}
 use Rattle.arena.specs.Lent.{areas_in}
 use Rattle.tandem.specs.Deps.{dep_before}
-use Rattle.tandem.proofs.Filling.{dep-more, Filled, none_filled, filled_more, all-filled}
+use Rattle.tandem.proofs.Filling.{dep-more, none_filled, filled_more, all-filled}
 use Rattle.tandem.proofs.deps.fill_block.Goals as goal
 use Rattle.tandem.proofs.deps.fill_block.Goals.{then-k-lt256, else-k-lt256}
 

@@ -1,14 +1,10 @@
 -- `tandem::deps::fill_block` meets its contract. The loop's invariant: j entries stand, and `deep` is what the types before the next have.
 -- Assumes nothing.
-use mathlib.Core.Path.{◌≡◌, refl, ap, ◌∙◌}
-use mathlib.Core.Logic.{⊎_elim}
+use mathlib.Core.Path.{◌≡◌}
 use Prim.Native.Nat.{◌≤◌, ◌+◌, ◌*◌, ◌-◌}
-use native.Mathlib.Nat.{add_assoc}
-use native.Mathlib.Omega.{arith}
-use borrow.Author.Rules.{rules}
 use Rattle.arena.specs.Lent.{areas_in}
 use Rattle.tandem.specs.Deps.{dep_before}
-use Rattle.tandem.proofs.Filling.{dep-more, Filled, none_filled, filled_more, all-filled}
+use Rattle.tandem.proofs.Filling.{Filled}
 use Rattle.tandem.proofs.deps.fill_block.Given as goal
 
 abbrev pub invariant-loop-j : goal.invariant-loop-j

@@ -1,13 +1,13 @@
 -- `tandem::deps::fill_starts` meets its contract. The loop's invariant: the starts of k blocks stand, and `deep` is what the types before block k have.
 -- Assumes nothing.
-use mathlib.Core.Path.{◌≡◌, refl}
-use Prim.Native.Nat.{◌≤◌, ◌*◌, ◌-◌}
+use mathlib.Core.Path.{refl}
+use Prim.Native.Nat.{◌*◌}
 use native.Mathlib.Omega.{arith}
 use borrow.Author.Rules.{rules}
 use borrow.Author.Tests.{ltb-false}
 use Rattle.arena.specs.Lent.{areas_in}
 use Rattle.tandem.specs.Deps.{dep_before}
-use Rattle.tandem.proofs.Filling.{Filled, none_filled, filled_more, all-filled}
+use Rattle.tandem.proofs.Filling.{none_filled, filled_more, all-filled}
 use Rattle.tandem.proofs.deps.fill_starts.Goals as goal
 
 pub loop-k-init : goal.loop-k-init

@@ -1,13 +1,10 @@
 -- `tandem::deps::fill_starts` meets its contract. The loop's invariant: the starts of k blocks stand, and `deep` is what the types before block k have.
 -- Assumes nothing.
-use mathlib.Core.Path.{◌≡◌, refl}
+use mathlib.Core.Path.{◌≡◌}
 use Prim.Native.Nat.{◌≤◌, ◌*◌, ◌-◌}
-use native.Mathlib.Omega.{arith}
-use borrow.Author.Rules.{rules}
-use borrow.Author.Tests.{ltb-false}
 use Rattle.arena.specs.Lent.{areas_in}
 use Rattle.tandem.specs.Deps.{dep_before}
-use Rattle.tandem.proofs.Filling.{Filled, none_filled, filled_more, all-filled}
+use Rattle.tandem.proofs.Filling.{Filled}
 use Rattle.tandem.proofs.deps.fill_starts.Given as goal
 
 abbrev pub invariant-loop-k : goal.invariant-loop-k

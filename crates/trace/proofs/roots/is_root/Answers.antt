@@ -12,7 +12,6 @@ use Rattle.arena.specs.Lent.{areas_in}
 use Rattle.slots.proofs.Decision.{at-keys, NoneOf}
 use Rattle.slots.proofs.Numbered.{first_four, past_three}
 use Rattle.trace.specs.Bits.{root_in}
-use borrow.Author.Rules.{rules}
 use Rattle.trace.proofs.roots.is_root.Goals as goal
 
 module _ (s : Areas) (i : ℕ) where

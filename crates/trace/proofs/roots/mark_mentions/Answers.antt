@@ -1,15 +1,13 @@
 -- `trace::roots::mark_mentions` meets its contract. The loop's invariant: what the mentions from i on name is left to mark.
 -- Assumes nothing.
 use mathlib.Core.Path.{◌≡◌, sym, ap, ap₂, ◌∙◌}
-use mathlib.Core.List.{List, [], ◌∷◌, map}
-use Prim.Native.Nat.{ℕ, ◌+◌, ◌-◌, ◌≤◌, ◌<◌}
+use mathlib.Core.List.{[], ◌∷◌, map}
+use Prim.Native.Nat.{ℕ, ◌+◌, ◌≤◌, ◌<◌}
 use native.Mathlib.Nat.{sub-zero}
 use Rattle.definitions.specs.Lists.{count_up}
 use Rattle.definitions.specs.Areas.{Areas, Arena, Elem, at, numbered, mention_word}
 use Rattle.definitions.specs.Roots.{mention}
 use Rattle.arena.specs.Lent.{areas_in}
-use Rattle.trace.specs.Bits.{bits_of}
-use Rattle.trace.proofs.Sets.{Left}
 use Rattle.trace.proofs.Behind.{marked-as, marked_turn, marked-done}
 use Rattle.trace.proofs.Counting.{count_turn, count-done}
 use borrow.Author.Rules.{rules}

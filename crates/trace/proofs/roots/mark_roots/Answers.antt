@@ -12,7 +12,6 @@ use Rattle.arena.specs.declared.handle_set.Bases.{Bases}
 use Rattle.arena.specs.declared.sizes.Sizes.{Sizes}
 use Rattle.trace.specs.Bits.{Marked, those_in, roots_in}
 use Rattle.trace.proofs.Behind.{marked-as, marked-none, marked_more}
-use borrow.Author.Rules.{rules}
 use Rattle.trace.proofs.roots.mark_roots.Goals as goal
 
 module _ (s : Areas) (b : Bases) (n : Sizes) {v w u : List ℕ}

@@ -1,20 +1,12 @@
 -- `trace::roots::mark_those` meets its contract. The loop's invariant: the roots from i on are left to mark.
 -- Assumes nothing.
-use mathlib.Core.Path.{◌≡◌, sym, ap, subst, ◌∙◌}
-use mathlib.Core.Bool.{Bool, true, false, cond}
-use mathlib.Core.Logic.{⊎_elim}
-use mathlib.Core.List.{List, [], ◌∷◌, map}
-use Prim.Native.Nat.{ℕ, ◌+◌, ◌-◌, ◌≤◌, ◌<◌}
-use native.Mathlib.Nat.{sub-zero}
+use mathlib.Core.List.{List, map}
+use Prim.Native.Nat.{ℕ, ◌-◌, ◌≤◌}
 use Rattle.definitions.specs.Lists.{count_up, select}
 use Rattle.definitions.specs.Areas.{Areas, Arena, Elem, at, numbered}
-use Rattle.arena.specs.declared.handle_set.Bases.{Bases}
 use Rattle.arena.specs.Lent.{areas_in}
-use Rattle.trace.specs.Bits.{bits_of, Marked, root_in, those_in}
+use Rattle.trace.specs.Bits.{bits_of, root_in}
 use Rattle.trace.proofs.Sets.{Left}
-use Rattle.trace.proofs.Behind.{marked-as, marked-none, marked_turn, marked-done}
-use Rattle.trace.proofs.Counting.{count_turn, count-done}
-use borrow.Author.Rules.{rules}
 use Rattle.trace.proofs.roots.mark_those.Given as goal
 
 -- the roots from i up to n

@@ -1,6 +1,5 @@
 -- The word at the place that the definition gives. Assumes nothing.
 use Rattle.definitions.specs.Areas.{mention_word}
-use borrow.Author.Rules.{rules}
 use Rattle.arena.proofs.records.Mention.area.Goals as goal
 
 pub returns : goal.returns

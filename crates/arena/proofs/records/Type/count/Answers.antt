@@ -1,6 +1,5 @@
 -- The length by the definition's width. Assumes nothing.
 use mathlib.Core.Path.{refl}
-use borrow.Author.Rules.{rules}
 use Rattle.definitions.specs.Areas.{width, words, size}
 use Rattle.arena.proofs.records.Type.count.Goals as goal
 

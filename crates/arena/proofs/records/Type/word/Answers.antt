@@ -1,5 +1,4 @@
 -- The word at the place that the definition's width gives. Assumes nothing.
-use borrow.Author.Rules.{rules}
 use Rattle.definitions.specs.Areas.{width, words, word}
 use Rattle.arena.proofs.records.Type.word.Goals as goal
 

@@ -2,7 +2,6 @@
 -- Assumes nothing.
 use mathlib.Core.Path.{◌≡◌, ap, ◌∙◌}
 use Prim.Native.Nat.{ℕ, min}
-use borrow.Author.Rules.{rules}
 use Rattle.definitions.specs.Areas.{N}
 use Rattle.arena.specs.Sizes.{counted_in}
 use Rattle.arena.proofs.sizes.Sizes.of.Goals as goal
