@@ -8,13 +8,15 @@
 // the case; where no case has begun it is `? bad input` or `? does not fit`.
 #![tactic(auto)]
 
+ghost use Rattle.std.specs.Prelude.{◌≤◌, IfOk, length as size};
+
 mod output;
 mod text;
 
 use arena::{Constant, Expression, Global, Mention, Override, Type};
 use compact::{Compacted, KeepUnused};
-use libc::STDIN_FILENO;
 use output::{answer, complain_at_start, complain_in, show};
+use std::io;
 use text::{Read, State, case_number, finish, flag, length, start, words};
 
 // How many records there is room for in each area. With the maps, the text and what `compact` holds the buffers are under 64 KiB.
@@ -43,6 +45,7 @@ fn keep_unused(flag: u32) -> KeepUnused {
 
 // Writes what came of a case.
 fn report(
+    rt: &impl Print,
     head: Head,
     r: Compacted,
     types: &[u32],
@@ -58,28 +61,29 @@ fn report(
     override_map: &[u32],
     global_map: &[u32],
     expression_map: &[u32],
-) {
-    answer(head.case, r);
+) -> io::Result<()> {
+    answer(rt, head.case, r)?;
     if head.show == 0 {
-        return;
+        return Ok(());
     }
-    show(b"types", types);
-    show(b"constants", constants);
-    show(b"overrides", overrides);
-    show(b"globals", globals);
-    show(b"expressions", expressions);
-    show(b"members", members);
-    show(b"components", components);
-    show(b"mentions", mentions);
-    show(b"type_map", type_map);
-    show(b"constant_map", constant_map);
-    show(b"override_map", override_map);
-    show(b"global_map", global_map);
-    show(b"expression_map", expression_map);
+    show(rt, b"types", types)?;
+    show(rt, b"constants", constants)?;
+    show(rt, b"overrides", overrides)?;
+    show(rt, b"globals", globals)?;
+    show(rt, b"expressions", expressions)?;
+    show(rt, b"members", members)?;
+    show(rt, b"components", components)?;
+    show(rt, b"mentions", mentions)?;
+    show(rt, b"type_map", type_map)?;
+    show(rt, b"constant_map", constant_map)?;
+    show(rt, b"override_map", override_map)?;
+    show(rt, b"global_map", global_map)?;
+    show(rt, b"expression_map", expression_map)
 }
 
 // Compacts the case and writes what came of it, if all of it could be read.
 fn run(
+    rt: &impl Print,
     head: Head,
     state: State,
     types: &mut [u32],
@@ -95,9 +99,9 @@ fn run(
     override_map: &mut [u32],
     global_map: &mut [u32],
     expression_map: &mut [u32],
-) {
+) -> io::Result<()> {
     let State::Good = state else {
-        return;
+        return Ok(());
     };
     let r = compact::compact(
         types,
@@ -116,6 +120,7 @@ fn run(
         keep_unused(head.keep),
     );
     report(
+        rt,
         head,
         r,
         types,
@@ -131,11 +136,12 @@ fn run(
         override_map,
         global_map,
         expression_map,
-    );
+    )
 }
 
 // Reads the maps' lengths, and runs the case.
 fn with_maps(
+    rt: &impl Print,
     text: &[u8],
     head: Head,
     before: Read,
@@ -147,7 +153,7 @@ fn with_maps(
     members: &mut [u32],
     components: &mut [u32],
     mentions: &mut [u32],
-) -> Read {
+) -> io::Result<Read> {
     let mut type_map = [7u32; MAP_ROOM];
     let t = length(text, before, MAP_ROOM);
     let t_words = t.words;
@@ -170,6 +176,7 @@ fn with_maps(
     let expression_map = &mut expression_map[0..e_words];
     let state = e.state;
     run(
+        rt,
         head,
         state,
         types,
@@ -185,12 +192,13 @@ fn with_maps(
         override_map,
         global_map,
         expression_map,
-    );
-    e
+    )?;
+    Ok(e)
 }
 
 // Reads areas 4 to 7, and goes on with the maps.
 fn with_expressions(
+    rt: &impl Print,
     text: &[u8],
     head: Head,
     before: Read,
@@ -198,7 +206,7 @@ fn with_expressions(
     constants: &mut [u32],
     overrides: &mut [u32],
     globals: &mut [u32],
-) -> Read {
+) -> io::Result<Read> {
     let mut expressions = [0u32; ROOM * Expression::WIDTH];
     let e = words(text, before, &mut expressions);
     let e_words = e.words;
@@ -216,6 +224,7 @@ fn with_expressions(
     let n_words = n.words;
     let mentions = &mut mentions[0..n_words];
     with_maps(
+        rt,
         text,
         head,
         n,
@@ -231,7 +240,7 @@ fn with_expressions(
 }
 
 // Reads areas 0 to 3, and goes on with the other areas.
-fn run_case(text: &[u8], head: Head, before: Read) -> Read {
+fn run_case(rt: &impl Print, text: &[u8], head: Head, before: Read) -> io::Result<Read> {
     let mut types = [0u32; ROOM * Type::WIDTH];
     let t = words(text, before, &mut types);
     let t_words = t.words;
@@ -248,11 +257,11 @@ fn run_case(text: &[u8], head: Head, before: Read) -> Read {
     let g = words(text, o, &mut globals);
     let g_words = g.words;
     let globals = &mut globals[0..g_words];
-    with_expressions(text, head, g, types, constants, overrides, globals)
+    with_expressions(rt, text, head, g, types, constants, overrides, globals)
 }
 
 // Runs the next case; answers where reading stands after it, at its end if no case follows.
-fn run_next(text: &[u8], before: Read) -> Read {
+fn run_next(rt: &impl Print, text: &[u8], before: Read) -> io::Result<Read> {
     let first = case_number(text, before);
     let state = first.state;
     match state {
@@ -264,39 +273,54 @@ fn run_next(text: &[u8], before: Read) -> Read {
                 keep: keep.number,
                 show: show.number,
             };
-            let last = run_case(text, head, show);
+            let last = run_case(rt, text, head, show)?;
             let after = last.state;
             if let State::Good = after {
-                return last;
+                return Ok(last);
             }
-            complain_in(first.number, after);
+            complain_in(rt, first.number, after)?;
         }
         State::End => {}
-        _ => complain_at_start(state),
+        _ => complain_at_start(rt, state)?,
     }
-    finish()
+    Ok(finish())
 }
 
 // Runs the cases, each of which takes at least one byte.
-fn run_all(text: &[u8]) {
+fn run_all(rt: &impl Print, text: &[u8]) -> io::Result<()> {
     let mut last = start();
     let mut left = text.len();
     while 0 < left {
-        last = run_next(text, last);
+        last = run_next(rt, text, last)?;
         let state = last.state;
         if let State::End = state {
-            return;
+            return Ok(());
         }
         left -= 1;
     }
+    Ok(())
 }
 
-fn main() {
-    let mut text = [0u8; TEXT];
-    let n = io::read_full(STDIN_FILENO, &mut text);
-    if n == TEXT {
-        complain_at_start(State::Unfit);
-        return;
+// Reads until the text is full or the input ends, and says how many bytes it put there.
+fn read_full<R: io::Read>(input: &mut R, text: &mut [u8]) -> io::Result<usize>
+    ensures { IfOk result (λ n. n ≤ size text.new) }
+{
+    let mut done = 0;
+    while done < text.len() {
+        let n = input.read(&mut text[done..])?;
+        if n == 0 {
+            break;
+        }
+        done += n;
     }
-    run_all(&text[..n]);
+    Ok(done)
+}
+
+fn main(rt: HostRuntime) -> io::Result<()> {
+    let mut text = [0u8; TEXT];
+    let n = read_full(&mut rt.stdin(), &mut text)?;
+    if n == TEXT {
+        return complain_at_start(&rt, State::Unfit);
+    }
+    run_all(&rt, &text[..n])
 }

@@ -3,35 +3,35 @@ ghost use Rattle.std.specs.Prelude.{◌+◌, ◌≤◌, ◌<◌, length};
 
 use crate::text::State;
 use compact::Compacted;
-use libc::STDOUT_FILENO;
+use std::io;
 
 // Writes n, and the byte after it.
-fn put(n: u32, after: u8) {
-    io::print_decimal(STDOUT_FILENO, n as u64);
-    io::write_all(STDOUT_FILENO, &[after]);
+fn put(rt: &impl Print, n: u32, after: u8) -> io::Result<()> {
+    rt.print(n)?;
+    rt.write_all(&[after])
 }
 
 // The line of a case.
-pub fn answer(case: u32, r: Compacted) {
-    put(case, b' ');
+pub fn answer(rt: &impl Print, case: u32, r: Compacted) -> io::Result<()> {
+    put(rt, case, b' ')?;
     match r {
         Compacted::Kept(n) => {
-            put(0, b' ');
-            put(0, b' ');
-            put(0, b' ');
-            put(n.types, b' ');
-            put(n.constants, b' ');
-            put(n.overrides, b' ');
-            put(n.globals, b' ');
-            put(n.expressions, b' ');
-            put(n.members, b' ');
-            put(n.components, b'\n');
+            put(rt, 0, b' ')?;
+            put(rt, 0, b' ')?;
+            put(rt, 0, b' ')?;
+            put(rt, n.types, b' ')?;
+            put(rt, n.constants, b' ')?;
+            put(rt, n.overrides, b' ')?;
+            put(rt, n.globals, b' ')?;
+            put(rt, n.expressions, b' ')?;
+            put(rt, n.members, b' ')?;
+            put(rt, n.components, b'\n')
         }
         Compacted::Refused(f) => {
-            put(f.number, b' ');
-            put(f.area, b' ');
-            put(f.record, b' ');
-            io::write_all(STDOUT_FILENO, b"0 0 0 0 0 0 0\n");
+            put(rt, f.number, b' ')?;
+            put(rt, f.area, b' ')?;
+            put(rt, f.record, b' ')?;
+            rt.write_all(b"0 0 0 0 0 0 0\n")
         }
     }
 }
@@ -52,53 +52,49 @@ fn together(words: &[u32], from: usize) -> usize
 }
 
 // The word w, or `n*w`, after a space.
-fn put_words(n: usize, w: u32) {
-    io::write_all(STDOUT_FILENO, b" ");
+fn put_words(rt: &impl Print, n: usize, w: u32) -> io::Result<()> {
+    rt.write_all(b" ")?;
     if 1 < n {
-        io::print_decimal(STDOUT_FILENO, n as u64);
-        io::write_all(STDOUT_FILENO, b"*");
+        rt.print(n)?;
+        rt.write_all(b"*")?;
     }
     if w == 4294967295 {
-        io::write_all(STDOUT_FILENO, b"N");
+        rt.write_all(b"N")
     } else {
-        io::print_decimal(STDOUT_FILENO, w as u64);
+        rt.print(w)
     }
 }
 
 // A line: the name, and the words.
-pub fn show(name: &[u8], words: &[u32]) {
-    io::write_all(STDOUT_FILENO, name);
+pub fn show(rt: &impl Print, name: &[u8], words: &[u32]) -> io::Result<()> {
+    rt.write_all(name)?;
     let mut i = 0;
     while i < words.len() {
         let n = together(words, i);
-        put_words(n, words[i]);
+        put_words(rt, n, words[i])?;
         i += n;
     }
-    io::write_all(STDOUT_FILENO, b"\n");
+    rt.write_all(b"\n")
 }
 
 // Why the program ends before the text does.
-pub fn complain(state: State) {
+pub fn complain(rt: &impl Print, state: State) -> io::Result<()> {
     match state {
-        State::Unfit => {
-            io::write_all(STDOUT_FILENO, b"does not fit\n");
-        }
-        _ => {
-            io::write_all(STDOUT_FILENO, b"bad input\n");
-        }
+        State::Unfit => { rt.write_all(b"does not fit\n") }
+        _ => { rt.write_all(b"bad input\n") }
     }
 }
 
 // The same before the first word of a case.
-pub fn complain_at_start(state: State) {
-    io::write_all(STDOUT_FILENO, b"? ");
-    complain(state);
+pub fn complain_at_start(rt: &impl Print, state: State) -> io::Result<()> {
+    rt.write_all(b"? ")?;
+    complain(rt, state)
 }
 
 // The same in a case.
-pub fn complain_in(case: u32, state: State) {
-    io::write_all(STDOUT_FILENO, b"case ");
-    io::print_decimal(STDOUT_FILENO, case as u64);
-    io::write_all(STDOUT_FILENO, b": ");
-    complain(state);
+pub fn complain_in(rt: &impl Print, case: u32, state: State) -> io::Result<()> {
+    rt.write_all(b"case ")?;
+    rt.print(case)?;
+    rt.write_all(b": ")?;
+    complain(rt, state)
 }

@@ -7,10 +7,11 @@
 // line that starts with # is passed over. A text of TEXT bytes or more ends with `? does not fit`, with no verdict.
 #![tactic(auto)]
 
-ghost use Rattle.std.specs.Prelude.{◌≤◌, length};
+ghost use Rattle.std.specs.Prelude.{◌≤◌, IfOk, length};
 
 use arena::{Mention, N, least};
-use libc::{STDIN_FILENO, STDOUT_FILENO};
+use std::io;
+use std::io::Read;
 
 // The most words that a module of the input has: so many mentions, a few more than 4,097. With the maps and the text the buffers are
 // under 64 KiB.
@@ -192,9 +193,9 @@ fn judged(line: &[u8]) -> faults::Verdict {
     )
 }
 
-fn print(n: u32) {
-    io::write_all(STDOUT_FILENO, b" ");
-    io::print_decimal(STDOUT_FILENO, n as u64);
+fn print(rt: &impl Print, n: u32) -> io::Result<()> {
+    rt.write_all(b" ")?;
+    rt.print(n)
 }
 
 // Where a byte stands, from a start on; the length where it does not.
@@ -213,46 +214,61 @@ fn find(text: &[u8], from: usize, b: u8) -> usize
 }
 
 // Writes the verdict on one line.
-fn report(line: &[u8]) {
+fn report(rt: &impl Print, line: &[u8]) -> io::Result<()> {
     if line.len() == 0 {
-        return;
+        return Ok(());
     }
     if line[0] == b'#' {
-        return;
+        return Ok(());
     }
     let n = find(line, 0, b' ');
-    io::write_all(STDOUT_FILENO, &line[0..n]);
+    rt.write_all(&line[0..n])?;
     let v = judged(&line[n..]);
     match v {
         faults::Verdict::Refused(f) => {
-            print(f.number);
-            print(f.area);
-            print(f.record);
+            print(rt, f.number)?;
+            print(rt, f.area)?;
+            print(rt, f.record)?;
         }
         faults::Verdict::Accepted => {
-            print(0);
-            print(0);
-            print(0);
+            print(rt, 0)?;
+            print(rt, 0)?;
+            print(rt, 0)?;
         }
     }
-    io::write_all(STDOUT_FILENO, b"\n");
+    rt.write_all(b"\n")
 }
 
-fn report_all(text: &[u8]) {
+fn report_all(rt: &impl Print, text: &[u8]) -> io::Result<()> {
     let mut at = 0;
     while at < text.len() {
         let end = find(text, at, b'\n');
-        report(&text[at..end]);
+        report(rt, &text[at..end])?;
         at = end + 1;
     }
+    Ok(())
 }
 
-fn main() {
-    let mut text = [0u8; TEXT];
-    let n = io::read_full(STDIN_FILENO, &mut text);
-    if n == TEXT {
-        io::write_all(STDOUT_FILENO, b"? does not fit\n");
-        return;
+// Reads until the text is full or the input ends, and says how many bytes it put there.
+fn read_full<R: Read>(input: &mut R, text: &mut [u8]) -> io::Result<usize>
+    ensures { IfOk result (λ n. n ≤ length text.new) }
+{
+    let mut done = 0;
+    while done < text.len() {
+        let n = input.read(&mut text[done..])?;
+        if n == 0 {
+            break;
+        }
+        done += n;
     }
-    report_all(&text[..n]);
+    Ok(done)
+}
+
+fn main(rt: HostRuntime) -> io::Result<()> {
+    let mut text = [0u8; TEXT];
+    let n = read_full(&mut rt.stdin(), &mut text)?;
+    if n == TEXT {
+        return rt.write_all(b"? does not fit\n");
+    }
+    report_all(&rt, &text[..n])
 }
