@@ -11,7 +11,6 @@ ghost use Rattle.std.specs.Prelude.{◌≤◌, IfOk, length};
 
 use arena::{Mention, N, least};
 use std::io;
-use std::io::Read;
 
 // The most words that a module of the input has: so many mentions, a few more than 4,097. With the maps and the text the buffers are
 // under 64 KiB.
@@ -250,7 +249,7 @@ fn report_all(rt: &impl Print, text: &[u8]) -> io::Result<()> {
 }
 
 // Reads until the text is full or the input ends, and says how many bytes it put there.
-fn read_full<R: Read>(input: &mut R, text: &mut [u8]) -> io::Result<usize>
+fn read_full<R: io::Read>(input: &mut R, text: &mut [u8]) -> io::Result<usize>
     ensures { IfOk result (λ n. n ≤ length text.new) }
 {
     let mut done = 0;
