@@ -4,10 +4,11 @@
 set -euo pipefail
 cd "$(dirname "$0")"
 . ./machine.sh
-mkdir -p target/log
-if ! rt staticlib cadnohal >target/log/staticlib.say 2>&1; then
+mkdir -p target/log target/staticlib
+if ! (cd crates/cadnohal && rt lib) >target/log/staticlib.say 2>&1; then
     cat target/log/staticlib.say
     exit 1
 fi
-grep '^rt: ' target/log/staticlib.say
+grep '^logic=' target/log/staticlib.say | tail -n 1
+cp crates/cadnohal/out/libcadnohal.a target/staticlib/
 cargo build --offline --release --quiet --manifest-path host/Cargo.toml

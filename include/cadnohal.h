@@ -1,6 +1,6 @@
 /* Cadnohal: compacts a flat shader module in place, or refuses it with a number and a place and changes nothing.
  *
- * Link libcadnohal.a (`rt staticlib cadnohal` writes it to target/staticlib). It needs memset and nothing else, takes no
+ * Link libcadnohal.a (`bash build.sh` writes it to target/staticlib). It needs memset and nothing else, takes no
  * memory, keeps no state, and holds less than 64 KiB of stack: 45.5 KiB as measured, CADNOHAL_STACK with some to spare.
  *
  * Every function takes any words: it checks everything itself, and for each content of the slices its answer and every

@@ -14,7 +14,7 @@ fn main() {
     // Only a warning: `cargo check` and `cargo doc` need no archive, and other builds stop next.
     if !archive.is_file() {
         println!(
-            "cargo:warning={} isn't there; run `rt staticlib cadnohal` at the repository's root, \
+            "cargo:warning={} isn't there; run `bash build.sh` at the repository's root, \
              or set CADNOHAL_LIB_DIR to the folder that holds it",
             archive.display()
         );

@@ -180,7 +180,8 @@ pub extern "C" fn cadnohal_check<'a>(
     expression_map: &'a [u32],
 ) -> Answer
     ensures { result ≡ answer_to (reported (check
-        (areas_of types.now constants.now overrides.now globals.now expressions.now members.now components.now mentions.now)
+        (areas_of types.now constants.now overrides.now globals.now expressions.now
+        members.now components.now mentions.now)
         (lengths (maps_of type_map.now constant_map.now override_map.now global_map.now expression_map.now)))) }
 {
     let v = faults::check(

@@ -53,7 +53,8 @@ pub fn judge<'a>(
 ) -> Judged
     requires { marks.old ≡ replicate marks_words 0 }
     ensures { Judges keep result
-        (areas_of types.now constants.now overrides.now globals.now expressions.now members.now components.now mentions.now)
+        (areas_of types.now constants.now overrides.now globals.now expressions.now
+        members.now components.now mentions.now)
         (maps_of type_map.now constant_map.now override_map.now global_map.now expression_map.now) marks.new }
 {
     let v = faults::check(

@@ -80,7 +80,8 @@ pub fn check<'a>(
     expression_map: &'a [u32],
 ) -> Verdict
     ensures { report_of result ≡ reported (check
-        (areas_of types.now constants.now overrides.now globals.now expressions.now members.now components.now mentions.now)
+        (areas_of types.now constants.now overrides.now globals.now expressions.now
+        members.now components.now mentions.now)
         (lengths (maps_of type_map.now constant_map.now override_map.now global_map.now expression_map.now))) }
 {
     let m = [
