@@ -55,7 +55,8 @@ pub fn element_after<'a>(
     expression_map: &'a [u32],
 ) -> Element
     ensures { element_of result ≡
-        element_by (maps_of type_map.now constant_map.now override_map.now global_map.now expression_map.now) (element_of x) }
+        element_by (maps_of type_map.now constant_map.now override_map.now global_map.now expression_map.now)
+        (element_of x) }
 {
     match x {
         Element::Type(h) => Element::Type(type_after(type_map, h)),

@@ -30,7 +30,8 @@ fn map_of<'a>(
     expression_map: &'a [u32],
 ) -> &'a [u32]
     ensures { result.now ≡
-        map_of (maps_of type_map.now constant_map.now override_map.now global_map.now expression_map.now) (arena_of arena) }
+        map_of (maps_of type_map.now constant_map.now override_map.now global_map.now expression_map.now)
+        (arena_of arena) }
 {
     match arena {
         Arena::Types => type_map,
