@@ -83,7 +83,8 @@ pub fn dep_before(
         return 0;
     }
     let k = (t - 1) / 256;
-    if k != *held {
+    let other = k != *held;
+    if other {
         fill_block(n, starts, k, block, m);
         *held = k;
     }

@@ -10,7 +10,7 @@ use Rattle.definitions.specs.Areas.{Areas}
 use Rattle.arena.specs.Lent.{areas_in}
 use Rattle.tandem.specs.Deps.{dep_before, Block, Held}
 use Rattle.tandem.proofs.deps.dep_before.Goals as goal
-use Rattle.tandem.proofs.deps.dep_before.Goals.{then-k-held, else-k-held}
+use Rattle.tandem.proofs.deps.dep_before.Goals.{then-other, else-other}
 
 -- what is read at the last of t types, in the block that it lies in
 of-block : (s : Areas) (t : ℕ) {held : ℕ} {block : List ℕ} → (t ≡ 0 → ⊥) → held ≡ (t - 1) / 256 → Block s ((t - 1) / 256) block
@@ -29,9 +29,9 @@ returns c =
     let s = areas_in a.m.now in
     let k = (a.t - 1) / 256 in
     let l : k < 16777216 = omega arith in
-    let b : (c.if-k-held.held ≡ k) × Block s k c.if-k-held.block =
-    elim c.if-k-held.branch [
-      | then-k-held w ↦ (w.held-is, rw w.block-is w.fill_block.ensures)
-      | else-k-held w ↦ (w.held-is ∙ sym w.if-k-held.false, rw (w.block-is, w.if-k-held.false) (c.requires.2.1 (omega (arith, w.if-k-held.false))))
+    let b : (c.if-other.held ≡ k) × Block s k c.if-other.block =
+    elim c.if-other.branch [
+      | then-other w ↦ (w.held-is, rw w.block-is w.fill_block.ensures)
+      | else-other w ↦ (w.held-is ∙ sym w.if-other.false, rw (w.block-is, w.if-other.false) (c.requires.2.1 (omega (arith, w.if-other.false))))
     ] in
     of-block s a.t c.if-t-eq0.false b.0 b.1
