@@ -1,5 +1,5 @@
 #!/usr/bin/env bash
-# The static library, proved as it is built, and the command line over it: target/staticlib/libcadnohal.a, host/target/release/cadnohal
+# The static library, over what is proved already or else proved now, and the command line over it: target/staticlib/libcadnohal.a, host/target/release/cadnohal
 # (on Arm host/target/x86_64-unknown-linux-gnu/release/cadnohal).
 set -euo pipefail
 cd "$(dirname "$0")"

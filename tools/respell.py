@@ -5,6 +5,7 @@ Run once at the top of the repository, after the kit's port.py: it rewrites .ant
 """
 import glob
 import re
+import sys
 
 # A token of antt or Rattle: a name may hold letters, digits, _, ' and dashes.
 TOKEN = re.compile(r"[^\W\d][\w'₀-₉-]*")
@@ -64,6 +65,8 @@ def facts(text, file):
 
 def main():
     parts = declared()
+    if not parts:
+        sys.exit("respell.py: no name of the older spelling is declared here; it has run already")
     for file in sorted(glob.glob("crates/**/*", recursive=True)):
         if not file.endswith((".antt", ".rt", ".edit")) or "/out/" in file:
             continue

@@ -1,5 +1,5 @@
 #!/usr/bin/env bash
-# Holds the program `cases`, once `rt run` in its folder has proved and built it, to the recorded answers.
+# Holds the program `cases`, once `rt ci`, or `rt run` in its folder, has proved and built it, to the recorded answers.
 set -euo pipefail
 shopt -s nullglob
 cd "$(dirname "$0")"
