@@ -1,7 +1,6 @@
--- `adjust::adjust_arena` meets its contract: after h turns the pass stands as `Rewriting` says.
+-- `adjust::adjust_arena` meets its contract.
 -- Assumes nothing.
 use mathlib.Core.Path.{sym, ap, ◌∙◌}
-use Prim.Native.Nat.{◌+◌, ◌≤◌}
 use native.Mathlib.Nat.{div-le_self}
 use native.Mathlib.Omega.{arith}
 use lib.ListN.{length}
@@ -20,7 +19,9 @@ pub loop-h-init : goal.loop-h-init
 loop-h-init c = (search rules, rewriting _ _ _ _)
 
 pub adjust_kept-requires : goal.adjust_kept-requires
-adjust_kept-requires c = let r = (let it : c.loop-h.from + c.arena_width-width.result ≤ length c.args.ws.now = within _ _ _ _ c.loop-h.invariant.1.at c.loop-h-test.true in it) in omega (arith, c.arena_width-width.ensures)
+adjust_kept-requires c =
+    let r = within _ _ _ _ c.loop-h.invariant.1.at c.loop-h-test.true in
+    omega (arith, c.arena_width-width.ensures)
 
 pub overflow_add-h : goal.overflow_add-h
 overflow_add-h c = let d = div-le_self (length c.args.ws.now) c.arena_width-width.result in omega arith

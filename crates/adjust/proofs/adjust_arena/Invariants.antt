@@ -1,4 +1,4 @@
--- `adjust::adjust_arena` meets its contract: after h turns the pass stands as `Rewriting` says.
+-- After h turns the pass stands as `Rewriting` says.
 -- Assumes nothing.
 use Prim.Native.Nat.{◌-◌, ◌≤◌}
 use Rattle.definitions.specs.Areas.{numbered}

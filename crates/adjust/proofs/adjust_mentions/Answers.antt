@@ -1,4 +1,4 @@
--- `adjust::adjust_mentions` meets its contract: the mentions before `at` are adjusted.
+-- `adjust::adjust_mentions` meets its contract.
 -- Assumes nothing.
 use native.Mathlib.Omega.{arith}
 use Rattle.adjust.proofs.Passes.{renaming, mention-renamed, renamed}

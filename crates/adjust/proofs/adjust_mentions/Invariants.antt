@@ -1,4 +1,4 @@
--- `adjust::adjust_mentions` meets its contract: the mentions before `at` are adjusted.
+-- The mentions before `at` are adjusted.
 -- Assumes nothing.
 use Prim.Native.Nat.{◌-◌}
 use lib.ListN.{length}

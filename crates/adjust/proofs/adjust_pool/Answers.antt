@@ -1,4 +1,4 @@
--- `adjust::adjust_pool` meets its contract: after h turns the pass stands as `Packing` says.
+-- `adjust::adjust_pool` meets its contract.
 -- Assumes nothing.
 use mathlib.Core.Path.{◌≡◌, sym, ◌∙◌}
 use Prim.Native.Nat.{◌-◌, min}

@@ -1,4 +1,4 @@
--- `adjust::adjust_pool` meets its contract: after h turns the pass stands as `Packing` says.
+-- After h turns the pass stands as `Packing` says.
 -- Assumes nothing.
 use Prim.Native.Nat.{◌-◌, ◌≤◌}
 use Rattle.definitions.specs.Areas.{numbered}

@@ -1,4 +1,4 @@
--- `adjust::adjust_record` meets its contract: after k turns k words of the record are stored, and `rest` has the slots of those left.
+-- `adjust::adjust_record` meets its contract.
 -- Assumes nothing.
 use native.Mathlib.Omega.{arith}
 use borrow.Author.Rules.{rules}

@@ -1,4 +1,4 @@
--- `adjust::adjust_record` meets its contract: after k turns k words of the record are stored, and `rest` has the slots of those left.
+-- After k turns k words of the record are stored, and `rest` has the slots of those left.
 -- Assumes nothing.
 use mathlib.Core.Path.{◌≡◌, sym, ap, ap₂, ◌∙◌}
 use mathlib.Core.List.{◌∷◌}

@@ -1,4 +1,4 @@
--- `adjust::adjust_run` meets its contract: after k turns k words of the run are stored.
+-- `adjust::adjust_run` meets its contract.
 -- Assumes nothing.
 use native.Mathlib.Omega.{arith}
 use Rattle.adjust.proofs.Stores.{none-stored, all-stored}

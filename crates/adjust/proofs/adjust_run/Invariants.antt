@@ -1,4 +1,4 @@
--- `adjust::adjust_run` meets its contract: after k turns k words of the run are stored.
+-- After k turns k words of the run are stored.
 -- Assumes nothing.
 use mathlib.Core.Path.{◌≡◌, sym, ap, ◌∙◌}
 use mathlib.Core.List.{[], ◌∷◌, map}

@@ -1,4 +1,4 @@
--- `adjust::free` meets its contract: after some turns the words before `at` stand as they are to.
+-- `adjust::free` meets its contract.
 -- Assumes nothing.
 use native.Mathlib.Omega.{arith}
 use borrow.Author.Rules.{rules}

@@ -1,4 +1,4 @@
--- `adjust::free` meets its contract: after some turns the words before `at` stand as they are to.
+-- After some turns the words before `at` stand as they are to.
 -- Assumes nothing.
 use Prim.Native.Nat.{◌-◌}
 use lib.ListN.{length}

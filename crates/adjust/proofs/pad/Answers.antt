@@ -1,4 +1,4 @@
--- `adjust::pad` meets its contract: after i turns the first i words are N.
+-- `adjust::pad` meets its contract.
 -- Assumes nothing.
 use native.Mathlib.Omega.{arith}
 use borrow.Author.Fill.{fill_none, fill_more}

@@ -1,4 +1,4 @@
--- `adjust::pad` meets its contract: after i turns the first i words are N.
+-- After i turns the first i words are N.
 -- Assumes nothing.
 use mathlib.Core.Path.{◌≡◌}
 use mathlib.Core.List.{◌++◌}

@@ -1,4 +1,4 @@
--- `adjust::write` meets its contract: after k turns k words are stored.
+-- `adjust::write` meets its contract.
 -- Assumes nothing.
 use mathlib.Core.Path.{◌≡◌, refl, ap, ◌∙◌}
 use mathlib.Core.List.{◌∷◌}

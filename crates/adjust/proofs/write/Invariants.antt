@@ -1,4 +1,4 @@
--- `adjust::write` meets its contract: after k turns k words are stored.
+-- After k turns k words are stored.
 -- Assumes nothing.
 use Prim.Native.Nat.{◌-◌, ◌≤◌}
 use lib.ListN.{length, drop}

@@ -1,4 +1,4 @@
--- `judge` meets its contract. Both loops carry that the turns from here on decide, since those before accept.
+-- `judge` meets its contract.
 -- Assumes nothing.
 use native.Mathlib.Omega.{arith}
 use Rattle.definitions.specs.Refusals.{turns}
@@ -15,9 +15,11 @@ offset_bounds-turn c = omega arith
 pub returns-in-Refused : goal.returns-in-Refused
 unfolding turns
 returns-in-Refused c =
+    let a = c.args in
+    let s = areas_in a.m.now in
     let l = c.loop-turn in
-    stops (areas_in c.args.m.now) c.args.maps.now l.turn l.invariant.1 (omega arith)
-    (by_lengths_lem (areas_in c.args.m.now) c.args.maps.now l.turn (omega arith) c.first-v.ensures) c.in-Refused.is
+    stops s a.maps.now l.turn l.invariant.1 (omega arith)
+    (by_lengths_lem s a.maps.now l.turn (omega arith) c.first-v.ensures) c.in-Refused.is
 
 pub overflow_add-turn : goal.overflow_add-turn
 overflow_add-turn c = omega arith
@@ -25,9 +27,11 @@ overflow_add-turn c = omega arith
 pub loop-turn-preserved : goal.loop-turn-preserved
 unfolding turns
 loop-turn-preserved c =
+    let a = c.args in
+    let s = areas_in a.m.now in
     let l = c.loop-turn in
-    let v = by_lengths_lem (areas_in c.args.m.now) c.args.maps.now l.turn (omega arith) c.first-v.ensures in
-    (omega arith, goes_on (areas_in c.args.m.now) c.args.maps.now l.turn l.invariant.1 (omega arith) v c.in_default.is)
+    let v = by_lengths_lem s a.maps.now l.turn (omega arith) c.first-v.ensures in
+    (omega arith, goes_on s a.maps.now l.turn l.invariant.1 (omega arith) v c.in_default.is)
 
 pub passes-requires : goal.passes-requires
 passes-requires c =
@@ -56,9 +60,11 @@ first-v-requires-in-loop-turn-2 c =
 pub returns-in-Refused-v : goal.returns-in-Refused-v
 unfolding turns
 returns-in-Refused-v c =
+    let a = c.args in
+    let s = areas_in a.m.now in
     let l = c.loop-turn-2 in
-    stops (areas_in c.args.m.now) c.args.maps.now l.turn l.invariant.1 (omega arith)
-    (by-places (areas_in c.args.m.now) c.args.maps.now l.turn l.invariant.0 (omega arith) c.first-v-in-loop-turn-2.ensures)
+    stops s a.maps.now l.turn l.invariant.1 (omega arith)
+    (by-places s a.maps.now l.turn l.invariant.0 (omega arith) c.first-v-in-loop-turn-2.ensures)
     c.in-Refused-v.is
 
 pub overflow_add-turn-in-loop-turn-2 : goal.overflow_add-turn-in-loop-turn-2
@@ -71,9 +77,11 @@ loop-turn-2-smaller c = omega arith
 pub loop-turn-2-preserved : goal.loop-turn-2-preserved
 unfolding turns
 loop-turn-2-preserved c =
+    let a = c.args in
+    let s = areas_in a.m.now in
     let l = c.loop-turn-2 in
-    let v = by-places (areas_in c.args.m.now) c.args.maps.now l.turn l.invariant.0 (omega arith) c.first-v-in-loop-turn-2.ensures in
-    (omega arith, goes_on (areas_in c.args.m.now) c.args.maps.now l.turn l.invariant.1 (omega arith) v c.in_default-v.is)
+    let v = by-places s a.maps.now l.turn l.invariant.0 (omega arith) c.first-v-in-loop-turn-2.ensures in
+    (omega arith, goes_on s a.maps.now l.turn l.invariant.1 (omega arith) v c.in_default-v.is)
 
 pub returns : goal.returns
 unfolding turns

@@ -1,4 +1,4 @@
--- `judge` meets its contract. Both loops carry that the turns from here on decide, since those before accept.
+-- Both loops carry that the turns from here on decide, since those before accept.
 -- Assumes nothing.
 use Prim.Native.Nat.{◌-◌, ◌≤◌}
 use lib.ListN.{length}

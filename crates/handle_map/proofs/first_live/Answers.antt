@@ -1,4 +1,4 @@
--- `handle_map::first_live` meets its contract. The invariant: no word before `i` is live. The measure is what is left of the length.
+-- `handle_map::first_live` meets its contract.
 -- Assumes nothing.
 use mathlib.Core.Path.{refl}
 use native.Mathlib.Omega.{arith}
@@ -10,16 +10,14 @@ loop-i-init c = (omega arith, refl)
 
 pub returns-then-first : goal.returns-then-first
 returns-then-first c =
-    let l = c in
-    first-is l.args.words.now l.loop-i.i l.loop-i.invariant.1 (omega arith) c.if-first.true
+    first-is c.args.words.now c.loop-i.i c.loop-i.invariant.1 (omega arith) c.if-first.true
 
 pub overflow_add-i : goal.overflow_add-i
 overflow_add-i c = omega arith
 
 pub loop-i-preserved : goal.loop-i-preserved
 loop-i-preserved c =
-    let l = c in
-    (omega arith, next l.args.words.now l.loop-i.i l.loop-i.invariant.1 (omega arith) c.if-first.false)
+    (omega arith, next c.args.words.now c.loop-i.i c.loop-i.invariant.1 (omega arith) c.if-first.false)
 
 pub returns : goal.returns
 returns c = no-first c.args.words.now c.loop-i.i c.loop-i.invariant.1 (omega arith)

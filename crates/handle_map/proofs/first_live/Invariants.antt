@@ -1,4 +1,4 @@
--- `handle_map::first_live` meets its contract. The invariant: no word before `i` is live. The measure is what is left of the length.
+-- The invariant: no word before `i` is live. The measure is what is left of the length.
 -- Assumes nothing.
 use mathlib.Core.Path.{◌≡◌}
 use Prim.Native.Nat.{◌≤◌, ◌-◌}

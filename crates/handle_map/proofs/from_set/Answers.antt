@@ -1,4 +1,4 @@
--- `handle_map::from_set` meets its contract: after h turns the map of the first h records stands, and so many of them are kept.
+-- `handle_map::from_set` meets its contract.
 -- Assumes nothing.
 use mathlib.Core.Path.{◌≡◌}
 use mathlib.Core.Bool.{cond}

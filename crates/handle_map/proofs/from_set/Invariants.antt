@@ -1,4 +1,4 @@
--- `handle_map::from_set` meets its contract: after h turns the map of the first h records stands, and so many of them are kept.
+-- After h turns the map of the first h records stands, and so many of them are kept.
 -- Assumes nothing.
 use Prim.Native.Nat.{◌-◌}
 use Rattle.handle_map.specs.FromSet.{in_set}

@@ -1,4 +1,4 @@
--- `handle_map::last_live` meets its contract. The invariant: no word from `i` on is live. The measure is `i`.
+-- `handle_map::last_live` meets its contract.
 -- Assumes nothing.
 use mathlib.Core.Path.{ap, sym}
 use native.Mathlib.Omega.{arith}
@@ -15,13 +15,11 @@ overflow_sub-i c = omega arith
 
 pub returns-then-last : goal.returns-then-last
 returns-then-last c =
-    let l = c in
-    last-is l.args.words.now l.loop-i.i l.loop-i.invariant.1 (omega arith) l.loop-i.invariant.0 c.if-last.true
+    last-is c.args.words.now c.loop-i.i c.loop-i.invariant.1 (omega arith) c.loop-i.invariant.0 c.if-last.true
 
 pub loop-i-preserved : goal.loop-i-preserved
 loop-i-preserved c =
-    let l = c in
-    (omega arith, before l.args.words.now l.loop-i.i l.loop-i.invariant.1 (omega arith) l.loop-i.invariant.0 c.if-last.false)
+    (omega arith, before c.args.words.now c.loop-i.i c.loop-i.invariant.1 (omega arith) c.loop-i.invariant.0 c.if-last.false)
 
 pub returns : goal.returns
 returns c = no_last c.args.words.now c.loop-i.i c.loop-i.invariant.1 (omega arith)

@@ -1,4 +1,4 @@
--- `handle_map::last_live` meets its contract. The invariant: no word from `i` on is live. The measure is `i`.
+-- The invariant: no word from `i` on is live. The measure is `i`.
 -- Assumes nothing.
 use mathlib.Core.Path.{◌≡◌}
 use Prim.Native.Nat.{◌≤◌}

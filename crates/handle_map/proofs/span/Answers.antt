@@ -9,11 +9,9 @@ returns-then-first c = span_none c.args.words.now _ c.first_live-first.ensures c
 
 pub overflow_add-end : goal.overflow_add-end
 overflow_add-end c =
-    let f = c in
-    let n = last_some f.args.words.now _ f.first_live-first.ensures _ c.last_live-last.ensures c.if-first.false in
+    let n = last_some c.args.words.now _ c.first_live-first.ensures _ c.last_live-last.ensures c.if-first.false in
     omega arith
 
 pub returns : goal.returns
 returns c =
-    let f = c in
-    span-some f.args.words.now _ f.first_live-first.ensures _ c.last_live-last.ensures c.if-first.false
+    span-some c.args.words.now _ c.first_live-first.ensures _ c.last_live-last.ensures c.if-first.false

@@ -1,4 +1,4 @@
--- `rules::all_below` meets its contract. The loop's invariant: all are below the bound just where all that are left are.
+-- `rules::all_below` meets its contract.
 -- Assumes nothing.
 use mathlib.Core.Path.{◌≡◌, refl, sym, ap, ◌∙◌}
 use mathlib.Core.Bool.{Bool, true, ◌&&◌}

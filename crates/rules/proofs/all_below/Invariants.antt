@@ -1,4 +1,4 @@
--- `rules::all_below` meets its contract. The loop's invariant: all are below the bound just where all that are left are.
+-- The loop's invariant: all are below the bound just where all that are left are.
 -- Assumes nothing.
 use mathlib.Core.Path.{◌≡◌}
 use Prim.Native.Nat.{◌-◌, ◌≤◌}

@@ -1,4 +1,4 @@
--- `rules::blank` meets its contract. The loop's invariant: all words are N just where all that are left are.
+-- `rules::blank` meets its contract.
 -- Assumes nothing.
 use mathlib.Core.Path.{refl, ◌∙◌}
 use native.Mathlib.Omega.{arith}

@@ -1,4 +1,4 @@
--- `rules::blank` meets its contract. The loop's invariant: all words are N just where all that are left are.
+-- The loop's invariant: all words are N just where all that are left are.
 -- Assumes nothing.
 use mathlib.Core.Path.{◌≡◌}
 use Prim.Native.Nat.{◌-◌}

@@ -1,4 +1,4 @@
--- `rules::pool_used` meets its contract. The loop's invariant: what is left of the pool and the counts so far are the pool.
+-- The loop's invariant: what is left of the pool and the counts so far are the pool.
 -- Assumes nothing.
 use mathlib.Core.Path.{◌≡◌}
 use Prim.Native.Nat.{◌+◌, ◌-◌, ◌≤◌}

@@ -1,4 +1,4 @@
--- `rules::prefix` meets its contract. The loop's invariant: where the types from u on stop, those from t on do.
+-- `rules::prefix` meets its contract.
 -- Assumes nothing.
 use mathlib.Core.Path.{◌≡◌, refl, sym, ap, ◌∙◌}
 use mathlib.Core.Bool.{Bool, cond}

@@ -1,4 +1,4 @@
--- `rules::prefix` meets its contract. The loop's invariant: where the types from u on stop, those from t on do.
+-- The loop's invariant: where the types from u on stop, those from t on do.
 -- Assumes nothing.
 use mathlib.Core.Path.{◌≡◌}
 use Prim.Native.Nat.{◌-◌}

@@ -1,4 +1,4 @@
--- `rules::slots_good` meets its contract. The loop's invariant: all words are good just where all that are left are.
+-- `rules::slots_good` meets its contract.
 -- Assumes nothing.
 use mathlib.Core.Path.{refl, sym, ap, ◌∙◌}
 use Prim.Native.Nat.{◌-◌}

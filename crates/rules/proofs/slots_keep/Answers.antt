@@ -1,4 +1,4 @@
--- `rules::slots_keep` meets its contract. The loop's invariant: all words keep the rule just where all that are left do.
+-- `rules::slots_keep` meets its contract.
 -- Assumes nothing.
 use mathlib.Core.Path.{ap, ◌∙◌}
 use native.Mathlib.Nat.{sub-zero}

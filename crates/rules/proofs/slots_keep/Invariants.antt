@@ -1,4 +1,4 @@
--- `rules::slots_keep` meets its contract. The loop's invariant: all words keep the rule just where all that are left do.
+-- The loop's invariant: all words keep the rule just where all that are left do.
 -- Assumes nothing.
 use mathlib.Core.Path.{◌≡◌}
 use Prim.Native.Nat.{◌-◌, ◌≤◌}

@@ -1,4 +1,4 @@
--- `tandem::type_expression_tandem` meets its contract. The loop's invariant: what is left of the visits makes the whole.
+-- `tandem::type_expression_tandem` meets its contract.
 -- Assumes nothing.
 use mathlib.Core.Path.{◌≡◌}
 use mathlib.Core.Logic.{⊎_elim, inl, inr}

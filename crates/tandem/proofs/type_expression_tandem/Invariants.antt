@@ -1,4 +1,4 @@
--- `tandem::type_expression_tandem` meets its contract. The loop's invariant: what is left of the visits makes the whole.
+-- The loop's invariant: what is left of the visits makes the whole.
 -- Assumes nothing.
 use Rattle.arena.specs.Lent.{areas_in}
 use Rattle.tandem.specs.Deps.{Held}

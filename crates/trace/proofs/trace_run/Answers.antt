@@ -1,4 +1,4 @@
--- `trace::trace_run` meets its contract. The loop's invariant: the handles that are left are left to put in.
+-- `trace::trace_run` meets its contract.
 -- Assumes nothing.
 use mathlib.Core.Path.{◌≡◌, sym, ap, ap₂, ◌∙◌}
 use mathlib.Core.List.{List, [], ◌∷◌, map}

@@ -1,4 +1,4 @@
--- `trace::trace_run` meets its contract. The loop's invariant: the handles that are left are left to put in.
+-- The loop's invariant: the handles that are left are left to put in.
 -- Assumes nothing.
 use mathlib.Core.List.{List, map}
 use Prim.Native.Nat.{ℕ, ◌-◌, ◌≤◌}

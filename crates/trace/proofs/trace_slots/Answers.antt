@@ -1,4 +1,4 @@
--- `trace::trace_slots` meets its contract. The loop's invariant: what the slots that are left name is left to mark.
+-- `trace::trace_slots` meets its contract.
 -- Assumes nothing.
 use mathlib.Core.Path.{◌≡◌, sym, ap, ◌∙◌}
 use mathlib.Core.List.{[], ◌++◌}

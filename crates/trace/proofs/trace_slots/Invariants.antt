@@ -1,4 +1,4 @@
--- `trace::trace_slots` meets its contract. The loop's invariant: what the slots that are left name is left to mark.
+-- The loop's invariant: what the slots that are left name is left to mark.
 -- Assumes nothing.
 use Prim.Native.Nat.{◌-◌, ◌≤◌}
 use Rattle.definitions.specs.References.{named_from}

@@ -1,4 +1,4 @@
--- `areas::first` meets its contract. The loop carries that the areas from here on decide.
+-- `areas::first` meets its contract.
 -- Assumes nothing.
 use mathlib.Core.Path.{sym, ap, ◌∙◌}
 use native.Mathlib.Omega.{arith}

@@ -1,4 +1,4 @@
--- `areas::first` meets its contract. The loop carries that the areas from here on decide.
+-- The loop carries that the areas from here on decide.
 -- Assumes nothing.
 use mathlib.Core.Path.{◌≡◌}
 use Prim.Native.Nat.{◌-◌}

@@ -1,4 +1,4 @@
--- `at_once::arena_passes` meets its contract. The loop carries the counts, the leading types, and that all records so far are good.
+-- `at_once::arena_passes` meets its contract.
 -- Assumes nothing.
 use mathlib.Core.Path.{◌≡◌, refl, sym, ap, subst, ◌∙◌}
 use Prim.Native.Nat.{◌<◌}
@@ -33,7 +33,7 @@ overflow_add-i c = omega arith
 
 pub loop-i-preserved : goal.loop-i-preserved
 loop-i-preserved c =
-    let s = (areas_in c.args.m.now) in
+    let s = areas_in c.args.m.now in
     let a = numbered c.args.area in
     let i = c.loop-i.i in
     let h = c.loop-i.invariant.1 in
@@ -44,16 +44,18 @@ loop-i-preserved c =
     let p = record-span s a i ws w c.span-span.ensures in (
       omega arith,
       walked_on s c.args.area i h (counted-on s a i h.counted p c.run_sum-sum.ensures) l
-          (passed-by s c.requires.measured.0 c.args.area i c.requires.area_bound c.args.z c.requires.measured.1 (subst (λ n. i < n) c.own_size-n.ensures c.loop-i-test.true) h.counted p (ap length ps) l
-          c.limits-l.ensures (record-words s a i ws w) (record-run s a i ws w ps refl) c.record_passes.ensures c.if-not-record_passes.false),
+          (passed-by s c.requires.measured.0 c.args.area i c.requires.area_bound c.args.z c.requires.measured.1
+          (subst (λ n. i < n) c.own_size-n.ensures c.loop-i-test.true) h.counted p (ap length ps) l
+          c.limits-l.ensures (record-words s a i ws w) (record-run s a i ws w ps refl)
+          c.record_passes.ensures c.if-not-record_passes.false),
     )
 
 pub returns : goal.returns
 returns c e =
-    let s = (areas_in c.args.m.now) in
+    let s = areas_in c.args.m.now in
     let h = c.loop-i.invariant in
-    let n : c.own_size-n.result ≡ size (areas_in c.args.m.now) (numbered c.args.area) =
-    c.own_size-n.ensures ∙ ap (λ z. size_in z (numbered c.args.area)) c.requires.measured.1 ∙ sym (size_in_lem (areas_in c.args.m.now) (numbered c.args.area)) in (
+    let n : c.own_size-n.result ≡ size s (numbered c.args.area) =
+    c.own_size-n.ensures ∙ ap (λ z. size_in z (numbered c.args.area)) c.requires.measured.1 ∙ sym (size_in_lem s (numbered c.args.area)) in (
       all-passed s c.args.area c.requires.measured.0 c.requires.area_bound n h.0 c.loop-i-test.false h.1,
       all-used s c.args.area c.requires.measured.0 c.requires.area_bound n h.0 c.loop-i-test.false h.1
           (eqb-true _ _ e ∙ ap length c.arena_pool-pool.ensures),

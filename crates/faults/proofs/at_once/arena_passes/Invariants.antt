@@ -1,4 +1,4 @@
--- `at_once::arena_passes` meets its contract. The loop carries the counts, the leading types, and that all records so far are good.
+-- The loop carries the counts, the leading types, and that all records so far are good.
 -- Assumes nothing.
 use Prim.Native.Nat.{◌-◌, ◌≤◌}
 use Rattle.arena.specs.Lent.{areas_in}

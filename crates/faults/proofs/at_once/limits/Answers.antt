@@ -17,11 +17,15 @@ Is i before z run v area = v ≡ limits_at area i before z run
 
 pub returns-in-0 : goal.returns-in-0
 unfolding limits_at
-returns-in-0 c = at-keys (Is c.args.i c.args.before c.args.z c.args.run _) (0 ∷ []) (refl, tt) _ c.in-0.is
+returns-in-0 c =
+    let a = c.args in
+    at-keys (Is a.i a.before a.z a.run _) (0 ∷ []) (refl, tt) _ c.in-0.is
 
 pub returns-in-4 : goal.returns-in-4
 unfolding limits_at
-returns-in-4 c = at-keys (Is c.args.i c.args.before c.args.z c.args.run _) (4 ∷ []) (refl, tt) _ c.in-4.is
+returns-in-4 c =
+    let a = c.args in
+    at-keys (Is a.i a.before a.z a.run _) (4 ∷ []) (refl, tt) _ c.in-4.is
 
 pub returns-in_default : goal.returns-in_default
 unfolding limits_at

@@ -1,4 +1,4 @@
--- `at_once::mentions_pass` meets its contract. The loop carries that all mentions so far are good.
+-- `at_once::mentions_pass` meets its contract.
 -- Assumes nothing.
 use native.Mathlib.Nat.{not-suc-le-zero}
 use native.Mathlib.Omega.{arith}
@@ -21,7 +21,8 @@ overflow_add-i c = omega arith
 
 pub loop-i-preserved : goal.loop-i-preserved
 loop-i-preserved c =
-    mention-on (areas_in c.args.m.now) c.loop-i.i c.loop-i.invariant c.area-area.ensures c.handle.ensures c.requires.1 c.own_size.ensures (lt-ltb _ 5 c.if-area-ge-ARENAS.false) (lt-ltb _ _ c.if-own_size-handle.false)
+    mention-on (areas_in c.args.m.now) c.loop-i.i c.loop-i.invariant c.area-area.ensures c.handle.ensures c.requires.1 c.own_size.ensures
+    (lt-ltb _ 5 c.if-area-ge-ARENAS.false) (lt-ltb _ _ c.if-own_size-handle.false)
 
 pub returns : goal.returns
 returns c e = mentions-passed (areas_in c.args.m.now) c.loop-i.i c.requires.1 c.loop-i-test.false c.loop-i.invariant

@@ -1,4 +1,4 @@
--- `at_once::mentions_pass` meets its contract. The loop carries that all mentions so far are good.
+-- The loop carries that all mentions so far are good.
 -- Assumes nothing.
 use Prim.Native.Nat.{ℕ, ◌-◌, ◌<◌}
 use Rattle.arena.specs.Lent.{areas_in}

@@ -1,4 +1,4 @@
--- `at_once::passes` meets its contract. The loop carries that all arenas so far pass.
+-- `at_once::passes` meets its contract.
 -- Assumes nothing.
 use mathlib.Core.Path.{subst, sym}
 use Prim.Native.Nat.{ℕ, ◌+◌}

@@ -1,4 +1,4 @@
--- `at_once::passes` meets its contract. The loop carries that all arenas so far pass.
+-- The loop carries that all arenas so far pass.
 -- Assumes nothing.
 use Prim.Native.Nat.{ℕ, ◌-◌, ◌<◌}
 use Rattle.definitions.specs.Areas.{Areas, numbered}

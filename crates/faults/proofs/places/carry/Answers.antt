@@ -13,7 +13,9 @@ use Rattle.faults.proofs.places.carry.Goals as goal
 
 pub returns-then-area-ge-ARENAS : goal.returns-then-area-ge-ARENAS
 returns-then-area-ge-ARENAS c =
-    no-counts (areas_in c.args.m.now) c.args.number c.args.area c.args.i c.in-4.is
+    let a = c.args in
+    let s = areas_in a.m.now in
+    no-counts s a.number a.area a.i c.in-4.is
     (⊎_elim (λ h. inl h) (λ h. inr h.1) c.then-area-ge-ARENAS.either)
 
 pub overflow_sub-at : goal.overflow_sub-at
@@ -24,22 +26,33 @@ overflow_mul-at c = place-fits (numbered c.args.area) (c.args.i - 1) _ (omega ar
 
 pub run_sum-requires : goal.run_sum-requires
 run_sum-requires c =
-    subst (λ b. b.sum ≤ most) (sym c.requires.before_value) (carried-le (areas_in c.args.m.now) c.args.number c.args.area c.args.i)
+    let a = c.args in
+    let s = areas_in a.m.now in
+    subst (λ b. b.sum ≤ most) (sym c.requires.before_value) (carried-le s a.number a.area a.i)
 
 pub returns-then-area-ne-EXPRESSIONS : goal.returns-then-area-ne-EXPRESSIONS
 returns-then-area-ne-EXPRESSIONS c =
-    no-leading (areas_in c.args.m.now) c.args.number c.args.area c.args.i c.in-7.is c.if-area-ne-EXPRESSIONS.true
+    let a = c.args in
+    let s = areas_in a.m.now in
+    no-leading s a.number a.area a.i c.in-7.is c.if-area-ne-EXPRESSIONS.true
 
 pub returns-else-i-eq0 : goal.returns-else-i-eq0
 returns-else-i-eq0 c =
-    counts (areas_in c.args.m.now) c.args.number c.args.area c.args.i _ _ c.args.before c.in-4.is c.if-area-ge-ARENAS.false (omega (arith, c.if-i-eq0.false)) c.requires.before_value
+    let a = c.args in
+    let s = areas_in a.m.now in
+    counts s a.number a.area a.i _ _ a.before c.in-4.is c.if-area-ge-ARENAS.false (omega (arith, c.if-i-eq0.false)) c.requires.before_value
     c.run_sum.ensures
-    (record-span (areas_in c.args.m.now) (numbered c.args.area) (c.args.i - 1) c.arena_words.ensures c.arena_width.ensures c.span.ensures)
+    (record-span s (numbered a.area) (a.i - 1) c.arena_words.ensures c.arena_width.ensures c.span.ensures)
 
 pub returns-else-area-ne-EXPRESSIONS : goal.returns-else-area-ne-EXPRESSIONS
 returns-else-area-ne-EXPRESSIONS c =
-    leads (areas_in c.args.m.now) c.args.number c.args.area c.args.i _ _ c.args.before c.in-7.is c.if-area-ne-EXPRESSIONS.false (ap (λ z. z.types) c.requires.z_value) c.requires.before_value c.prefix.ensures
+    let a = c.args in
+    let s = areas_in a.m.now in
+    leads s a.number a.area a.i _ _ a.before c.in-7.is c.if-area-ne-EXPRESSIONS.false
+    (ap (λ z. z.types) c.requires.z_value) c.requires.before_value c.prefix.ensures
 
 pub returns-in_default : goal.returns-in_default
 returns-in_default c =
-    nothing-else (areas_in c.args.m.now) c.args.number c.args.area c.args.i c.in_default.in_default-own.rest.0.1 c.in_default.in_default-own.rest.1
+    let a = c.args in
+    let s = areas_in a.m.now in
+    nothing-else s a.number a.area a.i c.in_default.in_default-own.rest.0.1 c.in_default.in_default-own.rest.1

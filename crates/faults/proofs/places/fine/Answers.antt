@@ -10,32 +10,44 @@ use Rattle.faults.proofs.Tests.{looks-there, pool-four, mention-four-six, member
 use Rattle.faults.proofs.places.fine.Goals as goal
 
 pub record_fine-requires : goal.record_fine-requires
-record_fine-requires c = record {
-  le_number = c.requires.le_number;
-  measured = c.requires.measured;
-  carried_value = c.requires.carried_value;
-  area_bound = (
-    c.in-0-to-4.if-area-lt5-own.true,
-    looks-there (sizes_of (areas_in c.args.m.now)) c.args.number c.args.area c.requires.area_bound.1 c.in-0-to-4.if-area-lt5-own.true,
-  );
-}
+record_fine-requires c =
+    let a = c.args in
+    let s = areas_in a.m.now in
+    record {
+      le_number = c.requires.le_number;
+      measured = c.requires.measured;
+      carried_value = c.requires.carried_value;
+      area_bound = (
+        c.in-0-to-4.if-area-lt5-own.true,
+        looks-there (sizes_of s) a.number a.area c.requires.area_bound.1 c.in-0-to-4.if-area-lt5-own.true,
+      );
+    }
 
 pub mention_fine-requires : goal.mention_fine-requires
-mention_fine-requires c = record {
-  z_value = c.requires.measured.1;
-  number_value = mention-four-six (sizes_of (areas_in c.args.m.now)) c.args.number c.args.area c.requires.area_bound.1 (omega (arith, c.in_default.in_default-own.rest.0.1, c.in_default.in_default-own.rest.1));
-}
+mention_fine-requires c =
+    let a = c.args in
+    let s = areas_in a.m.now in
+    record {
+      z_value = c.requires.measured.1;
+      number_value =
+          mention-four-six (sizes_of s) a.number a.area c.requires.area_bound.1
+          (omega (arith, c.in_default.in_default-own.rest.0.1, c.in_default.in_default-own.rest.1));
+    }
 
 pub returns-in-5 : goal.returns-in-5
 returns-in-5 c =
-    members-used (areas_in c.args.m.now) c.args.number c.args.area c.args.i c.args.z c.requires.measured.1
-    (pool-four (sizes_of (areas_in c.args.m.now)) c.args.number c.args.area c.requires.area_bound.1 (omega arith) (omega arith))
+    let a = c.args in
+    let s = areas_in a.m.now in
+    members-used s a.number a.area a.i a.z c.requires.measured.1
+    (pool-four (sizes_of s) a.number a.area c.requires.area_bound.1 (omega arith) (omega arith))
     c.in-5.is c.pool_used.ensures
 
 pub returns-in-6 : goal.returns-in-6
 returns-in-6 c =
-    components-used (areas_in c.args.m.now) c.args.number c.args.area c.args.i c.args.z c.requires.measured.1
-    (pool-four (sizes_of (areas_in c.args.m.now)) c.args.number c.args.area c.requires.area_bound.1 (omega arith) (omega arith))
+    let a = c.args in
+    let s = areas_in a.m.now in
+    components-used s a.number a.area a.i a.z c.requires.measured.1
+    (pool-four (sizes_of s) a.number a.area c.requires.area_bound.1 (omega arith) (omega arith))
     c.in-6.is c.pool_used-in-6.ensures
 
 pub returns-in-0-to-4 : goal.returns-in-0-to-4

@@ -1,4 +1,4 @@
--- `places::first` meets its contract. The outer loop carries that the areas from here on decide, the inner one that the rest of the area and the areas after it do.
+-- The outer loop carries that the areas from here on decide, the inner one that the rest of the area and the areas after it do.
 -- Assumes nothing.
 use mathlib.Core.Path.{◌≡◌}
 use Prim.Native.Nat.{◌-◌}

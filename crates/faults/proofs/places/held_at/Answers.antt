@@ -8,8 +8,14 @@ use Rattle.faults.proofs.places.held_at.Goals as goal
 
 pub returns-then-not-record_keeps : goal.returns-then-not-record_keeps
 returns-then-not-record_keeps c =
-    words-fail (areas_in c.args.m.now) (numbered c.args.area) c.args.i _ _ (held-record (areas_in c.args.m.now) (numbered c.args.area) c.args.i c.args.z c.requires _ refl) c.record_keeps.ensures c.if-not-record_keeps.true
+    let a = c.args in
+    let s = areas_in a.m.now in
+    words-fail s (numbered a.area) a.i _ _ (held-record s (numbered a.area) a.i a.z c.requires _ refl)
+    c.record_keeps.ensures c.if-not-record_keeps.true
 
 pub returns : goal.returns
 returns c =
-    run-decides (areas_in c.args.m.now) (numbered c.args.area) c.args.i _ _ (held-record (areas_in c.args.m.now) (numbered c.args.area) c.args.i c.args.z c.requires _ c.own_size.ensures) c.record_keeps.ensures c.if-not-record_keeps.false c.run_at.ensures c.all_below.ensures
+    let a = c.args in
+    let s = areas_in a.m.now in
+    run-decides s (numbered a.area) a.i _ _ (held-record s (numbered a.area) a.i a.z c.requires _ c.own_size.ensures)
+    c.record_keeps.ensures c.if-not-record_keeps.false c.run_at.ensures c.all_below.ensures

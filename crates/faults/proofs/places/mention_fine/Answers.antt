@@ -7,8 +7,13 @@ use Rattle.faults.proofs.places.mention_fine.Goals as goal
 
 pub returns-then-number-eq4 : goal.returns-then-number-eq4
 returns-then-number-eq4 c =
-    mention-area (areas_in c.args.m.now) c.args.number c.args.i _ c.area-area.ensures c.if-number-eq4.true
+    let a = c.args in
+    let s = areas_in a.m.now in
+    mention-area s a.number a.i _ c.area-area.ensures c.if-number-eq4.true
 
 pub returns : goal.returns
 returns c =
-    mention-handle (areas_in c.args.m.now) c.args.number c.args.i _ c.area-area.ensures c.args.z _ _ c.requires.z_value (⊎_elim (λ e. absurd (c.if-number-eq4.false e)) (λ e. e) c.requires.number_value) c.handle.ensures c.own_size.ensures
+    let a = c.args in
+    let s = areas_in a.m.now in
+    mention-handle s a.number a.i _ c.area-area.ensures a.z _ _ c.requires.z_value
+    (⊎_elim (λ e. absurd (c.if-number-eq4.false e)) (λ e. e) c.requires.number_value) c.handle.ensures c.own_size.ensures

@@ -8,10 +8,18 @@ use Rattle.faults.proofs.places.ordered_at.Goals as goal
 
 pub returns-then-not-record_keeps : goal.returns-then-not-record_keeps
 returns-then-not-record_keeps c =
-    words-fail (areas_in c.args.m.now) (numbered c.args.area) c.args.i _ _ (ordered-record (areas_in c.args.m.now) c.args.i c.requires.measured.0.whole c.args.area c.args.before c.args.z.types (ap (λ z. z.types) c.requires.measured.1)
-    c.requires.area_value _ c.bounds-b.ensures) c.record_keeps.ensures c.if-not-record_keeps.true
+    let a = c.args in
+    let s = areas_in a.m.now in
+    let q =
+    ordered-record s a.i c.requires.measured.0.whole a.area a.before a.z.types (ap (λ z. z.types) c.requires.measured.1)
+    c.requires.area_value _ c.bounds-b.ensures in
+    words-fail s (numbered a.area) a.i _ _ q c.record_keeps.ensures c.if-not-record_keeps.true
 
 pub returns : goal.returns
 returns c =
-    run-decides (areas_in c.args.m.now) (numbered c.args.area) c.args.i _ _ (ordered-record (areas_in c.args.m.now) c.args.i c.requires.measured.0.whole c.args.area c.args.before c.args.z.types (ap (λ z. z.types) c.requires.measured.1)
-    c.requires.area_value _ c.bounds-b.ensures) c.record_keeps.ensures c.if-not-record_keeps.false c.run_at.ensures c.all_below.ensures
+    let a = c.args in
+    let s = areas_in a.m.now in
+    let q =
+    ordered-record s a.i c.requires.measured.0.whole a.area a.before a.z.types (ap (λ z. z.types) c.requires.measured.1)
+    c.requires.area_value _ c.bounds-b.ensures in
+    run-decides s (numbered a.area) a.i _ _ q c.record_keeps.ensures c.if-not-record_keeps.false c.run_at.ensures c.all_below.ensures

@@ -1,4 +1,4 @@
--- `tandem::deps::deepest` meets its contract. The loop's invariant: `deep` is what the types before t have.
+-- `tandem::deps::deepest` meets its contract.
 -- Assumes nothing.
 use mathlib.Core.Path.{◌≡◌, ap, ◌∙◌}
 use native.Mathlib.Omega.{arith}

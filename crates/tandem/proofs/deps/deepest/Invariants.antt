@@ -1,4 +1,4 @@
--- `tandem::deps::deepest` meets its contract. The loop's invariant: `deep` is what the types before t have.
+-- The loop's invariant: `deep` is what the types before t have.
 -- Assumes nothing.
 use mathlib.Core.Path.{◌≡◌}
 use Prim.Native.Nat.{◌≤◌, ◌-◌}

@@ -1,4 +1,4 @@
--- `tandem::deps::fill_block` meets its contract. The loop's invariant: j entries stand, and `deep` is what the types before the next have.
+-- `tandem::deps::fill_block` meets its contract.
 -- Assumes nothing.
 use mathlib.Core.Path.{◌≡◌, refl, ap, ◌∙◌}
 use Prim.Native.Nat.{◌+◌, ◌*◌}

@@ -1,4 +1,4 @@
--- `tandem::deps::fill_block` meets its contract. The loop's invariant: j entries stand, and `deep` is what the types before the next have.
+-- The loop's invariant: j entries stand, and `deep` is what the types before the next have.
 -- Assumes nothing.
 use mathlib.Core.Path.{◌≡◌}
 use Prim.Native.Nat.{◌≤◌, ◌+◌, ◌*◌, ◌-◌}

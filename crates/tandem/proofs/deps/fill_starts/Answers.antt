@@ -1,4 +1,4 @@
--- `tandem::deps::fill_starts` meets its contract. The loop's invariant: the starts of k blocks stand, and `deep` is what the types before block k have.
+-- `tandem::deps::fill_starts` meets its contract.
 -- Assumes nothing.
 use mathlib.Core.Path.{refl}
 use Prim.Native.Nat.{◌*◌}

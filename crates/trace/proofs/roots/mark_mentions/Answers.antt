@@ -1,4 +1,4 @@
--- `trace::roots::mark_mentions` meets its contract. The loop's invariant: what the mentions from i on name is left to mark.
+-- `trace::roots::mark_mentions` meets its contract.
 -- Assumes nothing.
 use mathlib.Core.Path.{◌≡◌, sym, ap, ap₂, ◌∙◌}
 use mathlib.Core.List.{[], ◌∷◌, map}

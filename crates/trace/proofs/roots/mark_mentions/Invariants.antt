@@ -1,4 +1,4 @@
--- `trace::roots::mark_mentions` meets its contract. The loop's invariant: what the mentions from i on name is left to mark.
+-- The loop's invariant: what the mentions from i on name is left to mark.
 -- Assumes nothing.
 use mathlib.Core.List.{List, map}
 use Prim.Native.Nat.{ℕ, ◌-◌, ◌≤◌}

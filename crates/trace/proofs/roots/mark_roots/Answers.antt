@@ -33,8 +33,7 @@ unfolding numbered
 returns-then-keep c =
     let a = c.args in
     let s = areas_in a.m.now in
-    let d = c in
-    with-yes s a.b a.n d.mark_mentions.ensures d.mark_those.ensures d.if-keep.true c.mark_those-then-keep.ensures
+    with-yes s a.b a.n c.mark_mentions.ensures c.mark_those.ensures c.if-keep.true c.mark_those-then-keep.ensures
     c.mark_those-then-keep-2.ensures c.mark_those-then-keep-3.ensures
 
 pub returns-else-keep : goal.returns-else-keep

@@ -1,4 +1,4 @@
--- `trace::roots::mark_those` meets its contract. The loop's invariant: the roots from i on are left to mark.
+-- `trace::roots::mark_those` meets its contract.
 -- Assumes nothing.
 use mathlib.Core.Path.{◌≡◌, sym, ap, subst, ◌∙◌}
 use mathlib.Core.Bool.{Bool, true, false, cond}

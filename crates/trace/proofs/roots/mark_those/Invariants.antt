@@ -1,4 +1,4 @@
--- `trace::roots::mark_those` meets its contract. The loop's invariant: the roots from i on are left to mark.
+-- The loop's invariant: the roots from i on are left to mark.
 -- Assumes nothing.
 use mathlib.Core.List.{List, map}
 use Prim.Native.Nat.{ℕ, ◌-◌, ◌≤◌}
