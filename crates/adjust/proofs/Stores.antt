@@ -53,6 +53,11 @@ drop-sets : (vs l : Words) (i k : ℕ) → i + length vs ≤ k → drop k (sets 
 drop-sets [] l i k h = refl
 drop-sets (v ∷ vs) l i k h = drop-sets vs (set l i v) (suc i) k (omega arith) ∙ drop-set-lt k l i v (omega arith)
 
+-- a part that was lent and came back as those stores is the stores
+pub put-sets : (vs l : Words) (i k : ℕ) → i + length vs ≤ length l → k ≡ length vs → put_mid i k l vs ≡ sets l i vs
+put-sets vs l i k h e =
+    ap (λ d. take i l ++ (vs ++ d)) (ap (λ n. drop n (drop i l)) e ∙ drop-drop (length vs) i l) ∙ sym (sets-eq vs l i h ∙ append_assoc (take i l) vs _)
+
 -- a word there is as it was
 pub past-sets : (vs l : Words) (i k : ℕ) → i + length vs ≤ k → get_or (sets l i vs) k 0 ≡ get_or l k 0
 past-sets [] l i k h = refl
@@ -113,13 +118,7 @@ module _ (p : ℕ → Bool) (f : ℕ → Words) (old : Words) where
       let len : to ≡ length (gather p f h) = sym (length-take-le to new (omega (arith, part.low, part.high, part.same))) ∙ ap length part.done in
       cc (part.done, part.same)
 
--- ---- filling
-
--- a list filled to its end
-pub filled : (old new : Words) (i : ℕ) → length old ≤ i → i ≤ length old → new ≡ replicate i N ++ drop i old → new ≡ replicate (length old) N
-filled old new i g h e =
-    let k : i ≡ length old = omega arith in
-    e ∙ ap (λ l. replicate i N ++ l) (drop_of_length-le old g) ∙ append-nil _ ∙ ap (λ n. replicate n N) k
+-- ---- freeing
 
 -- a list whose tail, lent as a part, came back filled
 pub tail-filled : (l : Words) (to : ℕ) (part : Words) → to ≤ length l → part ≡ replicate (length (mid_of to (length l - to) l)) N
@@ -130,8 +129,6 @@ tail-filled l to part h e =
     let q : length (drop to l) ≤ length l - to = omega arith in
     let none : post_of to (length l - to) l ≡ [] = drop_of_length-le (drop to l) q in
     ap (λ x. take to l ++ (part ++ x)) none ∙ ap (λ x. take to l ++ x) (append-nil part ∙ e ∙ ap (λ n. replicate n N) m)
-
--- ---- freeing
 
 -- the words before `at` stand as they are to where those from `from` on are freed
 pub record Freeing (old new : Words) (from at : ℕ) : Type 0 where

@@ -1,13 +1,13 @@
 // Rewriting by the maps: records, pools and mentions in place, what was kept closed up, then N to the old end.
 #![tactic(auto)]
 
-ghost use Rattle.std.specs.Prelude.{◌≡◌, ◌∷◌, map, ◌+◌, ◌≤◌, ◌<◌, length, take, drop, replicate};
+ghost use Rattle.std.specs.Prelude.{◌≡◌, ◌∷◌, map, ◌+◌, ◌^◌, ◌≤◌, ◌<◌, length, take, drop, replicate};
 ghost use Rattle.std.proofs.lemmas.List.Edits.{sets};
 ghost use Rattle.definitions.specs.Areas.{N, numbered, width};
 ghost use Rattle.definitions.specs.Slots.{body, tail, slots, carried};
 ghost use Rattle.definitions.specs.Outcome.{map_of};
 ghost use Rattle.definitions.specs.MapEntries.{lookup};
-ghost use Rattle.arena.specs.Lent.{maps_of};
+ghost use Rattle.arena.specs.Lent.{maps_in};
 ghost use Rattle.slots.specs.Codes.{arena_of, slot_of, unpacked, words_from};
 ghost use Rattle.adjust.specs.Rewrite.{kept_by, adjusted_by, init_by, typed_by, record_from};
 ghost use Rattle.adjust.specs.Rewrite.{Empty, freed_from, arena_by, pool_by, runs_by, mentions_by};
@@ -15,304 +15,172 @@ ghost use Rattle.adjust.specs.Rewrite.{Empty, freed_from, arena_by, pool_by, run
 mod handles;
 
 use arena::{
-    CONSTANTS, Constant, Expression, ExpressionHandle, GLOBALS, Global, Mention, N, OVERRIDES,
-    Override, SPAN_LENGTH, SPAN_START, TAG, TAIL, TYPES, Type, TypeHandle,
+    CONSTANTS, Constant, Expression, ExpressionHandle, GLOBALS, Global, Mention, ModuleMap, N,
+    OVERRIDES, Override, SPAN_LENGTH, SPAN_START, TAG, TAIL, TYPES, Type, TypeHandle,
 };
 use slots::{Arena, Slot, code};
 
+// Words that move down: where they are read, and where they are written, which is no later.
+#[derive(Clone, Copy)]
+struct Shift {
+    from: usize,
+    to: usize,
+    ghost down: { to ≤ from },
+}
+
+impl Shift {
+    // The same, k words on.
+    fn past(self, k: usize) -> Shift
+        requires { self.from + k < 2 ^ 64 }
+        ensures { (result.from ≡ self.from + k) × (result.to ≡ self.to + k) }
+    {
+        Shift {
+            from: self.from + k,
+            to: self.to + k,
+        }
+    }
+}
+
 // The map of an arena.
-fn map_of<'a>(
-    arena: Arena,
-    type_map: &'a [u32],
-    constant_map: &'a [u32],
-    override_map: &'a [u32],
-    global_map: &'a [u32],
-    expression_map: &'a [u32],
-) -> &'a [u32]
-    ensures { result.now ≡
-        map_of (maps_of type_map.now constant_map.now override_map.now global_map.now expression_map.now)
-        (arena_of arena) }
+#[tactic(auto, unfolding(definitions::specs::Outcome::map_of))]
+fn map_of<'a>(arena: Arena, maps: &ModuleMap<'a>) -> &'a [u32]
+    ensures { result.now ≡ map_of (maps_in maps.now) (arena_of arena) }
 {
     match arena {
-        Arena::Types => type_map,
-        Arena::Constants => constant_map,
-        Arena::Overrides => override_map,
-        Arena::Globals => global_map,
-        Arena::Expressions => expression_map,
+        Arena::Types => maps.types,
+        Arena::Constants => maps.constants,
+        Arena::Overrides => maps.overrides,
+        Arena::Globals => maps.globals,
+        Arena::Expressions => maps.expressions,
     }
 }
 
 // A word adjusted; `start` is the new start of the record's run.
-fn adjust_slot<'a>(
-    slot: Slot,
-    w: u32,
-    start: u32,
-    type_map: &'a [u32],
-    constant_map: &'a [u32],
-    override_map: &'a [u32],
-    global_map: &'a [u32],
-    expression_map: &'a [u32],
-) -> u32
-    ensures { result ≡
-        adjusted_by (maps_of type_map.now constant_map.now override_map.now global_map.now expression_map.now)
-        start (slot_of slot) w }
+#[tactic(auto, unfolding(crate::specs::Rewrite::adjusted_by))]
+fn adjust_slot(slot: Slot, w: u32, start: u32, maps: &ModuleMap) -> u32
+    ensures { result ≡ adjusted_by (maps_in maps.now) start (slot_of slot) w }
 {
     match slot {
-        Slot::Must(arena) => handles::word_after(
-            arena,
-            w,
-            type_map,
-            constant_map,
-            override_map,
-            global_map,
-            expression_map,
-        ),
-        Slot::May(arena) => {
-            if w == N {
-                return N;
-            }
-            handles::word_after(
-                arena,
-                w,
-                type_map,
-                constant_map,
-                override_map,
-                global_map,
-                expression_map,
-            )
-        }
+        Slot::May(_) if w == N => N,
+        Slot::Must(arena) | Slot::May(arena) => handles::word_after(arena, w, maps),
         Slot::Start => start,
         _ => w,
     }
 }
 
-// The n words at `from`, whose slots the shape has, are written, adjusted, at `to`, which is no later.
-fn adjust_record<'a>(
-    ws: &mut [u32],
-    from: usize,
-    to: usize,
-    n: usize,
-    shape: u64,
-    start: u32,
-    type_map: &'a [u32],
-    constant_map: &'a [u32],
-    override_map: &'a [u32],
-    global_map: &'a [u32],
-    expression_map: &'a [u32],
-)
-    requires { (to ≤ from) × (from + n ≤ length ws.old) }
+// The n words, whose slots the shape has, are moved and adjusted.
+fn adjust_record(ws: &mut [u32], shift: Shift, n: usize, shape: u64, start: u32, maps: &ModuleMap)
+    requires { shift.from + n ≤ length ws.old }
     ensures { ws.new ≡
-        sets ws.old to
-        (record_from (maps_of type_map.now constant_map.now override_map.now global_map.now expression_map.now) start
-        (words_from ws.old from) 0 (unpacked shape n)) }
+        sets ws.old shift.to (record_from (maps_in maps.now) start (words_from ws.old shift.from) 0 (unpacked shape n)) }
 {
     let mut rest = shape;
-    let mut k = 0;
-    while k < n {
-        ws[to + k] = adjust_slot(
-            slots::first(rest),
-            ws[from + k],
-            start,
-            type_map,
-            constant_map,
-            override_map,
-            global_map,
-            expression_map,
-        );
-        rest = rest / code::BASE;
-        k += 1;
+    for k in 0..n {
+        ws[shift.to + k] = adjust_slot(slots::first(rest), ws[shift.from + k], start, maps);
+        rest /= code::BASE;
     }
 }
 
 // An init adjusted. Unless it must be there it may be N.
+#[tactic(auto, unfolding(crate::specs::Rewrite::init_by))]
 fn adjust_init(must: bool, init: ExpressionHandle, expression_map: &[u32]) -> ExpressionHandle
     ensures { result.0 ≡ init_by must expression_map.now init.0 }
 {
-    if init.0 == N {
-        if !must {
-            return init;
-        }
+    if init.0 == N && !must {
+        return init;
     }
-    handles::expression_after(expression_map, init)
+    handles::after::<Expression>(expression_map, init)
 }
 
-// The type and the init at `from`, as a global has them, are written, adjusted, at `to`, which is no later.
-fn adjust_typed(
-    ws: &mut [u32],
-    from: usize,
-    to: usize,
-    must: bool,
-    type_map: &[u32],
-    expression_map: &[u32],
-)
-    requires { (to ≤ from) × (from + 1 < length ws.old) }
+// The type and the init, as a global has them, are moved and adjusted.
+#[tactic(auto, unfolding(crate::specs::Rewrite::typed_by))]
+fn adjust_typed(ws: &mut [u32], shift: Shift, must: bool, maps: &ModuleMap)
+    requires { shift.from + 1 < length ws.old }
     ensures { ws.new ≡
-        sets ws.old to
-        (typed_by must type_map.now expression_map.now
-        (words_from ws.old from) 0) }
+        sets ws.old shift.to
+        (typed_by must maps.now.types.now maps.now.expressions.now (words_from ws.old shift.from) 0) }
 {
-    let ty = TypeHandle(ws[from + Global::TYPE]);
-    let init = ExpressionHandle(ws[from + Global::INIT]);
-    ws[to + Global::TYPE] = handles::type_after(type_map, ty).0;
-    ws[to + Global::INIT] = adjust_init(must, init, expression_map).0;
+    let ty = TypeHandle(ws[shift.from + Global::TYPE]);
+    let init = ExpressionHandle(ws[shift.from + Global::INIT]);
+    ws[shift.to + Global::TYPE] = handles::after::<Type>(maps.types, ty).0;
+    ws[shift.to + Global::INIT] = adjust_init(must, init, maps.expressions).0;
 }
 
 // As `adjust_typed`, past a flag, which stays: a constant or an override, whose words lie alike.
-fn adjust_named(
-    ws: &mut [u32],
-    from: usize,
-    to: usize,
-    must: bool,
-    type_map: &[u32],
-    expression_map: &[u32],
-)
-    requires { (to ≤ from) × (from + 2 < length ws.old) }
+#[tactic(auto, unfolding(crate::specs::Rewrite::typed_by))]
+fn adjust_named(ws: &mut [u32], shift: Shift, must: bool, maps: &ModuleMap)
+    requires { shift.from + 2 < length ws.old }
     ensures { ws.new ≡
-        sets ws.old to
-        (words_from ws.old from 0
-        ∷ typed_by must type_map.now expression_map.now
-        (words_from ws.old from) 1) }
+        sets ws.old shift.to
+        (words_from ws.old shift.from 0
+        ∷ typed_by must maps.now.types.now maps.now.expressions.now (words_from ws.old shift.from) 1) }
 {
-    let flag = ws[from + Constant::NAMED];
-    ws[to + Constant::NAMED] = flag;
-    adjust_typed(
-        ws,
-        from + Constant::TYPE,
-        to + Constant::TYPE,
-        must,
-        type_map,
-        expression_map,
-    );
+    let flag = ws[shift.from + Constant::NAMED];
+    ws[shift.to + Constant::NAMED] = flag;
+    adjust_typed(ws, shift.past(Constant::TYPE), must, maps);
 }
 
-// The n words before the tail of the area's record at `from` are written, adjusted, at `to`, which is no later.
+// The n words before the tail of the area's record are moved and adjusted.
 // Three areas have one shape each.
-fn adjust_body<'a>(
-    area: u32,
-    ws: &mut [u32],
-    from: usize,
-    to: usize,
-    n: usize,
-    start: u32,
-    type_map: &'a [u32],
-    constant_map: &'a [u32],
-    override_map: &'a [u32],
-    global_map: &'a [u32],
-    expression_map: &'a [u32],
-)
-    requires { (to ≤ from) × (from + n ≤ length ws.old) × (n + length tail ≡ width (numbered area)) }
+#[tactic(auto, unfolding(crate::proofs::Bodies::opened))]
+fn adjust_body(area: u32, ws: &mut [u32], shift: Shift, n: usize, start: u32, maps: &ModuleMap)
+    requires { (shift.from + n ≤ length ws.old) × (n + length tail ≡ width (numbered area)) }
     ensures { ws.new ≡
-        sets ws.old to
-        (record_from (maps_of type_map.now constant_map.now override_map.now global_map.now expression_map.now) start
-        (words_from ws.old from) 0 (body (numbered area) (words_from ws.old from))) }
+        sets ws.old shift.to
+        (record_from (maps_in maps.now) start (words_from ws.old shift.from) 0
+        (body (numbered area) (words_from ws.old shift.from))) }
 {
     match area {
-        CONSTANTS => adjust_named(ws, from, to, true, type_map, expression_map),
-        OVERRIDES => adjust_named(ws, from, to, false, type_map, expression_map),
-        GLOBALS => adjust_typed(ws, from, to, false, type_map, expression_map),
+        CONSTANTS => adjust_named(ws, shift, true, maps),
+        OVERRIDES => adjust_named(ws, shift, false, maps),
+        GLOBALS => adjust_typed(ws, shift, false, maps),
         _ => {
-            let shape = slots::shape(area, ws, from);
-            adjust_record(
-                ws,
-                from,
-                to,
-                n,
-                shape,
-                start,
-                type_map,
-                constant_map,
-                override_map,
-                global_map,
-                expression_map,
-            )
+            let shape = slots::shape(area, ws, shift.from);
+            adjust_record(ws, shift, n, shape, start, maps)
         }
     }
 }
 
-// A record's tail, which stays: that at `from` is written at `to`.
-fn carry_tail(ws: &mut [u32], from: usize, to: usize)
-    requires { (to ≤ from) × (from + length tail ≤ length ws.old) }
-    ensures { ws.new ≡ sets ws.old to (carried (words_from ws.old from) 0 tail) }
+// A record's tail is moved as it is.
+// Word by word: with `copy_within` a module that loses half its records takes a twenty-fifth longer.
+fn carry_tail(ws: &mut [u32], shift: Shift)
+    requires { shift.from + length tail ≤ length ws.old }
+    ensures { ws.new ≡ sets ws.old shift.to (carried (words_from ws.old shift.from) 0 tail) }
 {
-    let start = ws[from + SPAN_START];
-    let length = ws[from + SPAN_LENGTH];
-    let tag = ws[from + TAG];
-    ws[to + SPAN_START] = start;
-    ws[to + SPAN_LENGTH] = length;
-    ws[to + TAG] = tag;
+    let start = ws[shift.from + SPAN_START];
+    let length = ws[shift.from + SPAN_LENGTH];
+    let tag = ws[shift.from + TAG];
+    ws[shift.to + SPAN_START] = start;
+    ws[shift.to + SPAN_LENGTH] = length;
+    ws[shift.to + TAG] = tag;
 }
 
-// The record at `from`, of an area whose records have `wide` words, is written, adjusted, at `to`, which is no later.
-fn adjust_kept<'a>(
-    area: u32,
-    ws: &mut [u32],
-    from: usize,
-    to: usize,
-    wide: usize,
-    start: u32,
-    type_map: &'a [u32],
-    constant_map: &'a [u32],
-    override_map: &'a [u32],
-    global_map: &'a [u32],
-    expression_map: &'a [u32],
-)
-    requires { (to ≤ from) × (from + wide ≤ length ws.old) × (wide ≡ width (numbered area)) }
+// The record, of an area whose records have `wide` words, is moved and adjusted.
+fn adjust_kept(area: u32, ws: &mut [u32], shift: Shift, wide: usize, start: u32, maps: &ModuleMap)
+    requires { (shift.from + wide ≤ length ws.old) × (wide ≡ width (numbered area)) }
     ensures { ws.new ≡
-        sets ws.old to
-        (record_from (maps_of type_map.now constant_map.now override_map.now global_map.now expression_map.now) start
-        (words_from ws.old from) 0 (slots (numbered area) (words_from ws.old from))) }
+        sets ws.old shift.to
+        (record_from (maps_in maps.now) start (words_from ws.old shift.from) 0
+        (slots (numbered area) (words_from ws.old shift.from))) }
 {
     let n = wide - TAIL;
-    adjust_body(
-        area,
-        ws,
-        from,
-        to,
-        n,
-        start,
-        type_map,
-        constant_map,
-        override_map,
-        global_map,
-        expression_map,
-    );
-    carry_tail(ws, from + n, to + n);
-}
-
-// N in every word.
-fn pad(ws: &mut [u32])
-    ensures { ws.new ≡ replicate (length ws.old) N }
-{
-    let mut i = 0;
-    while i < ws.len() {
-        ws[i] = N;
-        i += 1;
-    }
-}
-
-// Words written at a place.
-fn write(ws: &mut [u32], at: usize, new: &[u32])
-    requires { at + length new.now ≤ length ws.old }
-    ensures { ws.new ≡ sets ws.old at new.now }
-{
-    let mut k = 0;
-    while k < new.len() {
-        ws[at + k] = new[k];
-        k += 1;
-    }
+    adjust_body(area, ws, shift, n, start, maps);
+    carry_tail(ws, shift.past(n));
 }
 
 // An empty record again and again from a place on, as long as it fits, then N to the end.
+// By places: of parts written through `chunks_exact_mut` a proof knows the lengths alone.
 fn free(ws: &mut [u32], from: usize, empty: &[u32])
     requires { (from ≤ length ws.old) × Empty empty.now }
     ensures { ws.new ≡ freed_from from ws.old }
 {
+    let width = empty.len();
     let mut at = from;
-    while empty.len() <= ws.len() - at {
-        write(ws, at, empty);
-        at += empty.len();
+    while width <= ws.len() - at {
+        ws[at..at + width].copy_from_slice(empty);
+        at += width;
     }
-    pad(&mut ws[at..]);
+    ws[at..].fill(N);
 }
 
 // The records of an area from a place on are freed: each is the area's empty record.
@@ -330,65 +198,30 @@ fn free_records(area: u32, ws: &mut [u32], from: usize)
 }
 
 // Whether the map keeps record h: past the map's end nothing is kept.
+#[tactic(auto, unfolding(crate::specs::Rewrite::kept_by, definitions::specs::MapEntries::lookup))]
 fn kept_at(own: &[u32], h: usize) -> bool
     ensures { result ≡ kept_by own.now h }
 {
-    if h < own.len() {
-        return own[h] != N;
-    }
-    false
+    own.get(h).copied().unwrap_or(N) != N
 }
 
 // An arena rewritten: its kept records adjusted and closed up in old order, then N.
 // As the Rust's `retain_mut` with `adjust_type`, `adjust_expression`.
-pub fn adjust_arena<'a>(
-    area: u32,
-    ws: &mut [u32],
-    type_map: &'a [u32],
-    constant_map: &'a [u32],
-    override_map: &'a [u32],
-    global_map: &'a [u32],
-    expression_map: &'a [u32],
-)
-    ensures { ws.new ≡
-        arena_by (maps_of type_map.now constant_map.now override_map.now global_map.now expression_map.now)
-        (numbered area) ws.old }
+pub fn adjust_arena(area: u32, ws: &mut [u32], maps: &ModuleMap)
+    ensures { ws.new ≡ arena_by (maps_in maps.now) (numbered area) ws.old }
 {
     let width = slots::arena_width(area);
-    let own = map_of(
-        slots::arena_at(area),
-        type_map,
-        constant_map,
-        override_map,
-        global_map,
-        expression_map,
-    );
-    let n = ws.len() / width;
+    let own = map_of(slots::arena_at(area), maps);
     let mut start = 0;
-    let mut from = 0;
     let mut to = 0;
-    let mut h = 0;
-    while h < n {
+    for h in 0..ws.len() / width {
+        let from = h * width;
         if kept_at(own, h) {
             let span = slots::span(area, ws, from);
-            adjust_kept(
-                area,
-                ws,
-                from,
-                to,
-                width,
-                start,
-                type_map,
-                constant_map,
-                override_map,
-                global_map,
-                expression_map,
-            );
+            adjust_kept(area, ws, Shift { from, to }, width, start, maps);
             start = arena::capped(start, span);
             to += width;
         }
-        from += width;
-        h += 1;
     }
     free_records(area, ws, to);
 }
@@ -398,21 +231,18 @@ fn run_word(area: u32, w: u32, own: &[u32]) -> u32
     ensures { result ≡ lookup own.now w }
 {
     match area {
-        TYPES => handles::type_after(own, TypeHandle(w)).0,
-        _ => handles::expression_after(own, ExpressionHandle(w)).0,
+        TYPES => handles::after::<Type>(own, TypeHandle(w)).0,
+        _ => handles::after::<Expression>(own, ExpressionHandle(w)).0,
     }
 }
 
-// The n words of the area's pool at `from` are written, adjusted, at `to`, which is no later.
-fn adjust_run(area: u32, pool: &mut [u32], from: usize, to: usize, n: usize, own: &[u32])
-    requires { (to ≤ from) × (from + n ≤ length pool.old) }
-    ensures { pool.new ≡
-        sets pool.old to (map (lookup own.now) (take n (drop from pool.old))) }
+// The n words of the area's pool are moved and adjusted.
+fn adjust_run(area: u32, pool: &mut [u32], shift: Shift, n: usize, own: &[u32])
+    requires { shift.from + n ≤ length pool.old }
+    ensures { pool.new ≡ sets pool.old shift.to (map (lookup own.now) (take n (drop shift.from pool.old))) }
 {
-    let mut k = 0;
-    while k < n {
-        pool[to + k] = run_word(area, pool[from + k], own);
-        k += 1;
+    for k in 0..n {
+        pool[shift.to + k] = run_word(area, pool[shift.from + k], own);
     }
 }
 
@@ -423,55 +253,29 @@ pub fn adjust_pool(area: u32, ws: &[u32], pool: &mut [u32], own: &[u32]) -> usiz
         × (result ≡ length (runs_by own.now (numbered area) ws.now pool.old)) }
 {
     let width = slots::arena_width(area);
-    let n = ws.len() / width;
     let mut from = 0;
     let mut to = 0;
-    let mut at = 0;
-    let mut h = 0;
-    while h < n {
-        let mut span = slots::span(area, ws, at) as usize;
-        if pool.len() - from < span {
-            span = pool.len() - from;
-        }
+    for h in 0..ws.len() / width {
+        let span = (slots::span(area, ws, h * width) as usize).min(pool.len() - from);
         if span != 0 && kept_at(own, h) {
-            adjust_run(area, pool, from, to, span, own);
+            adjust_run(area, pool, Shift { from, to }, span, own);
             to += span;
         }
         from += span;
-        at += width;
-        h += 1;
     }
-    pad(&mut pool[to..]);
+    pool[to..].fill(N);
     to
 }
 
 // The mentions adjusted in place: of each the second word, a handle of the arena that the first names.
-pub fn adjust_mentions<'a>(
-    mentions: &mut [u32],
-    type_map: &'a [u32],
-    constant_map: &'a [u32],
-    override_map: &'a [u32],
-    global_map: &'a [u32],
-    expression_map: &'a [u32],
-)
-    ensures { mentions.new ≡
-        mentions_by (maps_of type_map.now constant_map.now override_map.now global_map.now expression_map.now)
-        mentions.old }
+// By numbers: of parts written through `chunks_exact_mut` a proof knows the lengths alone.
+pub fn adjust_mentions(mentions: &mut [u32], maps: &ModuleMap)
+    ensures { mentions.new ≡ mentions_by (maps_in maps.now) mentions.old }
 {
-    let mut at = 0;
-    while Mention::WIDTH <= mentions.len() - at {
-        let area = mentions[at + Mention::AREA];
+    for h in 0..mentions.len() / Mention::WIDTH {
+        let at = h * Mention::WIDTH;
+        let arena = slots::arena_at(mentions[at + Mention::AREA]);
         let place = at + Mention::HANDLE;
-        let h = mentions[place];
-        mentions[place] = handles::word_after(
-            slots::arena_at(area),
-            h,
-            type_map,
-            constant_map,
-            override_map,
-            global_map,
-            expression_map,
-        );
-        at += Mention::WIDTH;
+        mentions[place] = handles::word_after(arena, mentions[place], maps);
     }
 }

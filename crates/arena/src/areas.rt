@@ -22,3 +22,36 @@ pub const AREAS: u32 = 8;
 
 // A module that is only read: its areas, by their numbers.
 pub type Module<'a> = [&'a [u32]; AREAS as usize];
+
+// The eight areas, lent for writing.
+#[derive(Drop)]
+pub struct ModuleMut<'a> {
+    pub types: &'a mut [u32],
+    pub constants: &'a mut [u32],
+    pub overrides: &'a mut [u32],
+    pub globals: &'a mut [u32],
+    pub expressions: &'a mut [u32],
+    pub members: &'a mut [u32],
+    pub components: &'a mut [u32],
+    pub mentions: &'a mut [u32],
+}
+
+// The five maps, lent for writing.
+#[derive(Drop)]
+pub struct ModuleMapMut<'a> {
+    pub types: &'a mut [u32],
+    pub constants: &'a mut [u32],
+    pub overrides: &'a mut [u32],
+    pub globals: &'a mut [u32],
+    pub expressions: &'a mut [u32],
+}
+
+// The five maps, only read. As the Rust's `ModuleMap`.
+#[derive(Clone, Copy)]
+pub struct ModuleMap<'a> {
+    pub types: &'a [u32],
+    pub constants: &'a [u32],
+    pub overrides: &'a [u32],
+    pub globals: &'a [u32],
+    pub expressions: &'a [u32],
+}

@@ -66,22 +66,16 @@ pub fn bit(b: Bases, x: Element) -> usize
 pub fn contains_bit(marks: &[u64], i: usize) -> bool
     ensures { result ≡ member marks.now i }
 {
-    if i / 64 < marks.len() {
-        let word = marks[i / 64];
-        return (word >> (i % 64)) % 2 == 1;
-    }
-    false
+    let word = marks.get(i / 64).copied().unwrap_or(0);
+    (word >> (i % 64)) % 2 == 1
 }
 
 // 1 where bit i is set, else 0. The remainder itself is answered, so that a loop over the bits needs no branch on them.
 pub fn bit_at(marks: &[u64], i: usize) -> u32
     ensures { result ≡ cond (member marks.now i) 1 0 }
 {
-    if i / 64 < marks.len() {
-        let word = marks[i / 64];
-        return ((word >> (i % 64)) % 2) as u32;
-    }
-    0
+    let word = marks.get(i / 64).copied().unwrap_or(0);
+    ((word >> (i % 64)) % 2) as u32
 }
 
 // Sets bit i; past the words' end nothing changes.
@@ -89,8 +83,7 @@ pub fn insert_bit(marks: &mut [u64], i: usize)
     ensures { Inserted marks.old i marks.new }
 {
     if i / 64 < marks.len() {
-        let w = marks[i / 64];
-        marks[i / 64] = w | (1 << (i % 64));
+        marks[i / 64] |= 1 << (i % 64);
     }
 }
 
@@ -112,9 +105,5 @@ pub fn insert(marks: &mut [u64], b: Bases, x: Element)
 pub fn clear(marks: &mut [u64])
     ensures { Cleared marks.old marks.new }
 {
-    let mut i = 0;
-    while i < marks.len() {
-        marks[i] = 0;
-        i += 1;
-    }
+    marks.fill(0);
 }

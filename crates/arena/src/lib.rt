@@ -11,11 +11,11 @@ mod sizes;
 
 pub use areas::{
     AREAS, ARENAS, COMPONENTS, CONSTANTS, EXPRESSIONS, GLOBALS, MEMBERS, MENTIONS, Module,
-    OVERRIDES, TYPES,
+    ModuleMap, ModuleMapMut, ModuleMut, OVERRIDES, TYPES,
 };
 pub use records::{
-    Constant, Expression, Global, Mention, N, Override, SPAN_LENGTH, SPAN_START, TAG, TAIL, Type,
-    capped, least, length, limit, width,
+    Constant, Expression, Global, Mention, N, Override, Record, SPAN_LENGTH, SPAN_START, TAG, TAIL,
+    Type, capped, length, limit, width,
 };
 pub use sizes::Sizes;
 

@@ -1,12 +1,16 @@
 // The areas' records. Each kind carries its width, its limit, its words' places, its empty record and its readers.
-ghost use Rattle.std.specs.Prelude.{◌≡◌, ◌+◌, ◌<◌, min, get_or, replicate};
+#![tactic(auto, unfolding(definitions::specs::Areas::width, definitions::specs::Areas::words, definitions::specs::Areas::mention_word, definitions::specs::Areas::mention_count))]
+
+ghost use Rattle.std.specs.Prelude.{◌≡◌, ℕ, ◌+◌, ◌<◌, min, get_or, replicate, refl};
 ghost use Rattle.definitions.specs.Areas.{N, Arena, width, widths, limits, length_of};
-ghost use Rattle.definitions.specs.Areas.{size, word, mention_count, mention_word};
+ghost use Rattle.definitions.specs.Areas.{size, words, word, mention_count, mention_word};
+ghost use Rattle.definitions.specs.Areas.{at};
 ghost use Rattle.arena.specs.Lent.{areas_in};
+ghost use Rattle.arena.specs.Elements.{element_of};
 
 use crate::{
-    AREAS, CONSTANTS, ConstantHandle, EXPRESSIONS, ExpressionHandle, GLOBALS, GlobalHandle,
-    MENTIONS, Module, OVERRIDES, OverrideHandle, TYPES, TypeHandle,
+    AREAS, CONSTANTS, ConstantHandle, EXPRESSIONS, Element, ExpressionHandle, GLOBALS,
+    GlobalHandle, MENTIONS, Module, OVERRIDES, OverrideHandle, TYPES, TypeHandle,
 };
 
 // "no handle"
@@ -57,20 +61,14 @@ const LIMITS: [usize; AREAS as usize] = [
 pub fn width(area: usize) -> usize
     ensures { result ≡ get_or widths area 1 }
 {
-    if area < AREAS as usize {
-        return WIDTHS[area];
-    }
-    1
+    WIDTHS.get(area).copied().unwrap_or(1)
 }
 
 // The most records that an area may have, by its number; 0 past the last.
 pub fn limit(area: usize) -> usize
     ensures { result ≡ get_or limits area 0 }
 {
-    if area < AREAS as usize {
-        return LIMITS[area];
-    }
-    0
+    LIMITS.get(area).copied().unwrap_or(0)
 }
 
 // The length in words of an area, by its number; 0 past the last.
@@ -83,39 +81,97 @@ pub fn length(m: &Module, area: usize) -> usize
     0
 }
 
-// The smaller of two.
-pub fn least(a: usize, b: usize) -> usize
-    ensures { result ≡ min a b }
-{
-    if a < b {
-        return a;
-    }
-    b
-}
-
 // A sum of words, as far as a word goes.
 pub fn capped(a: u32, b: u32) -> u32
     ensures { result ≡ min (a + b) N }
 {
-    if b <= N - a {
-        return a + b;
-    }
-    N
+    a.saturating_add(b)
 }
 
 // Word i of an area; 0 past its end.
 fn word(area: &[u32], i: usize) -> u32
     ensures { result ≡ get_or area.now i 0 }
 {
-    if i < area.len() {
-        return area[i];
+    area.get(i).copied().unwrap_or(0)
+}
+
+// A kind of record that has handles: an arena's.
+pub trait Record {
+    type Handle;
+
+    ghost arena: { Arena };
+
+    ghost index: { Self.Handle → ℕ };
+
+    ghost WIDTH: { ℕ };
+
+    const WIDTH: usize;
+
+    // The handle of a word.
+    fn handle(word: u32) -> Self::Handle
+        ensures { index result ≡ word };
+
+    fn element(h: Self::Handle) -> Element
+        ensures { element_of result ≡ at arena (index h) };
+
+    // A handle's word.
+    fn index(h: Self::Handle) -> u32
+        ensures { result ≡ index h }
+    {
+        Self::element(h).word()
     }
-    0
+
+    // The arena's words.
+    fn words<'a>(m: &Module<'a>) -> &'a [u32]
+        ensures { result.now ≡ words (areas_in m.now) arena };
+
+    // How many there are.
+    fn count(m: &Module) -> usize
+        ensures { result ≡ size (areas_in m.now) arena }
+    {
+        Self::words(m).len() / Self::WIDTH
+    }
+
+    ghost is_wide: { WIDTH ≡ width arena };
+}
+
+// Word k of record h.
+fn record_word<R: Record>(m: &Module, h: R::Handle, k: usize) -> u32
+    requires { k < 4294967296 }
+    ensures { result ≡ word (areas_in m.now) R.arena (R.index h) k }
+{
+    word(R::words(m), R::index(h) as usize * R::WIDTH + k)
 }
 
 // A type: kind, flags, a, b, tail.
 #[derive(Clone, Copy)]
 pub struct Type;
+
+impl Record for Type {
+    type Handle = TypeHandle;
+
+    ghost index = { λ h. h.0 };
+
+    ghost arena = { Arena.types };
+
+    ghost WIDTH = { width Arena.types };
+
+    const WIDTH: usize = Type::WIDTH;
+
+    ghost is_wide = { refl };
+
+    fn words<'a>(m: &Module<'a>) -> &'a [u32] {
+        m[TYPES as usize]
+    }
+
+    fn handle(word: u32) -> TypeHandle {
+        TypeHandle(word)
+    }
+
+    fn element(h: TypeHandle) -> Element {
+        Element::Type(h)
+    }
+}
 
 impl Type {
     pub const WIDTH: usize = 4 + TAIL;
@@ -136,48 +192,60 @@ impl Type {
         [N; Type::WIDTH]
     }
 
-    pub fn count(m: &Module) -> usize
-        ensures { result ≡ size (areas_in m.now) Arena.types }
-    {
-        m[TYPES as usize].len() / Type::WIDTH
-    }
-
-    // Word k of record h.
-    fn word(m: &Module, h: TypeHandle, k: usize) -> u32
-        requires { k < 4294967296 }
-        ensures { result ≡ word (areas_in m.now) Arena.types h.0 k }
-    {
-        word(m[TYPES as usize], h.0 as usize * Type::WIDTH + k)
-    }
-
     pub fn kind(m: &Module, h: TypeHandle) -> u32
         ensures { result ≡ word (areas_in m.now) Arena.types h.0 0 }
     {
-        Type::word(m, h, Type::KIND)
+        record_word::<Type>(m, h, Type::KIND)
     }
 
     pub fn flags(m: &Module, h: TypeHandle) -> u32
         ensures { result ≡ word (areas_in m.now) Arena.types h.0 1 }
     {
-        Type::word(m, h, Type::FLAGS)
+        record_word::<Type>(m, h, Type::FLAGS)
     }
 
     pub fn a(m: &Module, h: TypeHandle) -> u32
         ensures { result ≡ word (areas_in m.now) Arena.types h.0 2 }
     {
-        Type::word(m, h, Type::A)
+        record_word::<Type>(m, h, Type::A)
     }
 
     pub fn b(m: &Module, h: TypeHandle) -> u32
         ensures { result ≡ word (areas_in m.now) Arena.types h.0 3 }
     {
-        Type::word(m, h, Type::B)
+        record_word::<Type>(m, h, Type::B)
     }
 }
 
 // A constant: named, type, init, tail.
 #[derive(Clone, Copy)]
 pub struct Constant;
+
+impl Record for Constant {
+    type Handle = ConstantHandle;
+
+    ghost index = { λ h. h.0 };
+
+    ghost arena = { Arena.constants };
+
+    ghost WIDTH = { width Arena.constants };
+
+    const WIDTH: usize = Constant::WIDTH;
+
+    ghost is_wide = { refl };
+
+    fn words<'a>(m: &Module<'a>) -> &'a [u32] {
+        m[CONSTANTS as usize]
+    }
+
+    fn handle(word: u32) -> ConstantHandle {
+        ConstantHandle(word)
+    }
+
+    fn element(h: ConstantHandle) -> Element {
+        Element::Constant(h)
+    }
+}
 
 impl Constant {
     pub const WIDTH: usize = 3 + TAIL;
@@ -196,42 +264,54 @@ impl Constant {
         [N; Constant::WIDTH]
     }
 
-    pub fn count(m: &Module) -> usize
-        ensures { result ≡ size (areas_in m.now) Arena.constants }
-    {
-        m[CONSTANTS as usize].len() / Constant::WIDTH
-    }
-
-    // Word k of record h.
-    fn word(m: &Module, h: ConstantHandle, k: usize) -> u32
-        requires { k < 4294967296 }
-        ensures { result ≡ word (areas_in m.now) Arena.constants h.0 k }
-    {
-        word(m[CONSTANTS as usize], h.0 as usize * Constant::WIDTH + k)
-    }
-
     pub fn named(m: &Module, h: ConstantHandle) -> u32
         ensures { result ≡ word (areas_in m.now) Arena.constants h.0 0 }
     {
-        Constant::word(m, h, Constant::NAMED)
+        record_word::<Constant>(m, h, Constant::NAMED)
     }
 
     pub fn ty(m: &Module, h: ConstantHandle) -> TypeHandle
         ensures { result.0 ≡ word (areas_in m.now) Arena.constants h.0 1 }
     {
-        TypeHandle(Constant::word(m, h, Constant::TYPE))
+        TypeHandle(record_word::<Constant>(m, h, Constant::TYPE))
     }
 
     pub fn init(m: &Module, h: ConstantHandle) -> ExpressionHandle
         ensures { result.0 ≡ word (areas_in m.now) Arena.constants h.0 2 }
     {
-        ExpressionHandle(Constant::word(m, h, Constant::INIT))
+        ExpressionHandle(record_word::<Constant>(m, h, Constant::INIT))
     }
 }
 
 // An override: named, type, init or N, tail.
 #[derive(Clone, Copy)]
 pub struct Override;
+
+impl Record for Override {
+    type Handle = OverrideHandle;
+
+    ghost index = { λ h. h.0 };
+
+    ghost arena = { Arena.overrides };
+
+    ghost WIDTH = { width Arena.overrides };
+
+    const WIDTH: usize = Override::WIDTH;
+
+    ghost is_wide = { refl };
+
+    fn words<'a>(m: &Module<'a>) -> &'a [u32] {
+        m[OVERRIDES as usize]
+    }
+
+    fn handle(word: u32) -> OverrideHandle {
+        OverrideHandle(word)
+    }
+
+    fn element(h: OverrideHandle) -> Element {
+        Element::Override(h)
+    }
+}
 
 impl Override {
     pub const WIDTH: usize = 3 + TAIL;
@@ -250,42 +330,54 @@ impl Override {
         [N; Override::WIDTH]
     }
 
-    pub fn count(m: &Module) -> usize
-        ensures { result ≡ size (areas_in m.now) Arena.overrides }
-    {
-        m[OVERRIDES as usize].len() / Override::WIDTH
-    }
-
-    // Word k of record h.
-    fn word(m: &Module, h: OverrideHandle, k: usize) -> u32
-        requires { k < 4294967296 }
-        ensures { result ≡ word (areas_in m.now) Arena.overrides h.0 k }
-    {
-        word(m[OVERRIDES as usize], h.0 as usize * Override::WIDTH + k)
-    }
-
     pub fn named(m: &Module, h: OverrideHandle) -> u32
         ensures { result ≡ word (areas_in m.now) Arena.overrides h.0 0 }
     {
-        Override::word(m, h, Override::NAMED)
+        record_word::<Override>(m, h, Override::NAMED)
     }
 
     pub fn ty(m: &Module, h: OverrideHandle) -> TypeHandle
         ensures { result.0 ≡ word (areas_in m.now) Arena.overrides h.0 1 }
     {
-        TypeHandle(Override::word(m, h, Override::TYPE))
+        TypeHandle(record_word::<Override>(m, h, Override::TYPE))
     }
 
     pub fn init(m: &Module, h: OverrideHandle) -> ExpressionHandle
         ensures { result.0 ≡ word (areas_in m.now) Arena.overrides h.0 2 }
     {
-        ExpressionHandle(Override::word(m, h, Override::INIT))
+        ExpressionHandle(record_word::<Override>(m, h, Override::INIT))
     }
 }
 
 // A global: type, init or N, tail.
 #[derive(Clone, Copy)]
 pub struct Global;
+
+impl Record for Global {
+    type Handle = GlobalHandle;
+
+    ghost index = { λ h. h.0 };
+
+    ghost arena = { Arena.globals };
+
+    ghost WIDTH = { width Arena.globals };
+
+    const WIDTH: usize = Global::WIDTH;
+
+    ghost is_wide = { refl };
+
+    fn words<'a>(m: &Module<'a>) -> &'a [u32] {
+        m[GLOBALS as usize]
+    }
+
+    fn handle(word: u32) -> GlobalHandle {
+        GlobalHandle(word)
+    }
+
+    fn element(h: GlobalHandle) -> Element {
+        Element::Global(h)
+    }
+}
 
 impl Global {
     pub const WIDTH: usize = 2 + TAIL;
@@ -302,36 +394,48 @@ impl Global {
         [N; Global::WIDTH]
     }
 
-    pub fn count(m: &Module) -> usize
-        ensures { result ≡ size (areas_in m.now) Arena.globals }
-    {
-        m[GLOBALS as usize].len() / Global::WIDTH
-    }
-
-    // Word k of record h.
-    fn word(m: &Module, h: GlobalHandle, k: usize) -> u32
-        requires { k < 4294967296 }
-        ensures { result ≡ word (areas_in m.now) Arena.globals h.0 k }
-    {
-        word(m[GLOBALS as usize], h.0 as usize * Global::WIDTH + k)
-    }
-
     pub fn ty(m: &Module, h: GlobalHandle) -> TypeHandle
         ensures { result.0 ≡ word (areas_in m.now) Arena.globals h.0 0 }
     {
-        TypeHandle(Global::word(m, h, Global::TYPE))
+        TypeHandle(record_word::<Global>(m, h, Global::TYPE))
     }
 
     pub fn init(m: &Module, h: GlobalHandle) -> ExpressionHandle
         ensures { result.0 ≡ word (areas_in m.now) Arena.globals h.0 1 }
     {
-        ExpressionHandle(Global::word(m, h, Global::INIT))
+        ExpressionHandle(record_word::<Global>(m, h, Global::INIT))
     }
 }
 
 // An expression: kind, nine slots, tail.
 #[derive(Clone, Copy)]
 pub struct Expression;
+
+impl Record for Expression {
+    type Handle = ExpressionHandle;
+
+    ghost index = { λ h. h.0 };
+
+    ghost arena = { Arena.expressions };
+
+    ghost WIDTH = { width Arena.expressions };
+
+    const WIDTH: usize = Expression::WIDTH;
+
+    ghost is_wide = { refl };
+
+    fn words<'a>(m: &Module<'a>) -> &'a [u32] {
+        m[EXPRESSIONS as usize]
+    }
+
+    fn handle(word: u32) -> ExpressionHandle {
+        ExpressionHandle(word)
+    }
+
+    fn element(h: ExpressionHandle) -> Element {
+        Element::Expression(h)
+    }
+}
 
 impl Expression {
     pub const WIDTH: usize = 10 + TAIL;
@@ -346,34 +450,17 @@ impl Expression {
         [N; Expression::WIDTH]
     }
 
-    pub fn count(m: &Module) -> usize
-        ensures { result ≡ size (areas_in m.now) Arena.expressions }
-    {
-        m[EXPRESSIONS as usize].len() / Expression::WIDTH
-    }
-
-    // Word k of record h.
-    fn word(m: &Module, h: ExpressionHandle, k: usize) -> u32
-        requires { k < 4294967296 }
-        ensures { result ≡ word (areas_in m.now) Arena.expressions h.0 k }
-    {
-        word(
-            m[EXPRESSIONS as usize],
-            h.0 as usize * Expression::WIDTH + k,
-        )
-    }
-
     pub fn kind(m: &Module, h: ExpressionHandle) -> u32
         ensures { result ≡ word (areas_in m.now) Arena.expressions h.0 0 }
     {
-        Expression::word(m, h, Expression::KIND)
+        record_word::<Expression>(m, h, Expression::KIND)
     }
 
     // Slot k from 1 to 9 is word k.
     pub fn slot(m: &Module, h: ExpressionHandle, k: u32) -> u32
         ensures { result ≡ word (areas_in m.now) Arena.expressions h.0 k }
     {
-        Expression::word(m, h, k as usize)
+        record_word::<Expression>(m, h, k as usize)
     }
 }
 

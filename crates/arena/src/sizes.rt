@@ -4,7 +4,7 @@ ghost use Rattle.definitions.specs.Areas.{N};
 ghost use Rattle.arena.specs.Lent.{areas_in};
 ghost use Rattle.arena.specs.Sizes.{counted_in};
 
-use crate::{Constant, Expression, Global, Mention, Module, N, Override, Type};
+use crate::{Constant, Expression, Global, Mention, Module, N, Override, Record, Type};
 
 // How many records each arena has, and how many mentions there are.
 #[derive(Clone, Copy)]
@@ -21,10 +21,7 @@ pub struct Sizes {
 fn counted(n: usize) -> u32
     ensures { result ≡ min n N }
 {
-    if n < N as usize {
-        return n as u32;
-    }
-    N
+    u32::try_from(n).unwrap_or(N)
 }
 
 impl Sizes {

@@ -1,3 +1,2 @@
--- The laws that close the proofs of the boundary, and that its contract allows one outcome.
-pub mod Close
+-- That each contract of the boundary allows one outcome.
 pub mod Once

@@ -5,8 +5,8 @@ use Rattle.definitions.specs.Areas.{Areas}
 use Rattle.definitions.specs.Refusals.{Report}
 use Rattle.definitions.specs.Outcome.{Maps, Outcome}
 use Rattle.definitions.specs.MapEntries as Entries
-use Rattle.compact.specs.declared.Compacted.{Compacted}
-use Rattle.compact.specs.declared.Compacted.TheVariants.{Kept, Refused}
+use Rattle.faults.specs.declared.Fault.{Fault}
+use Rattle.compact.specs.declared.Counts.{Counts}
 use Rattle.cadnohal.specs.declared.Answer.{Answer}
 use Rattle.cadnohal.specs.declared.AdjustedAnswer.{AdjustedAnswer}
 use Rattle.cadnohal.specs.declared.RangeAnswer.{RangeAnswer}
@@ -39,9 +39,13 @@ placed nr a h =
 abbrev pub answer_to : Report → Answer
 answer_to r = placed r.number r.area r.record_number
 
--- the answer of `compact`
-abbrev pub answer_of : Compacted → Answer
-answer_of (Kept n) =
+-- a refusal
+abbrev pub refused : Fault → Answer
+refused f = placed f.number f.area f.record
+
+-- counts, with number and place 0
+abbrev pub counted : Counts → Answer
+counted n =
     record {
       number = 0;
       area = 0;
@@ -54,7 +58,6 @@ answer_of (Kept n) =
       members = n.members;
       components = n.components;
     }
-answer_of (Refused f) = placed f.number f.area f.record
 
 -- the outcome that an answer, the areas and the maps after it make
 abbrev pub outcome_in : Answer → Areas → Maps → Outcome

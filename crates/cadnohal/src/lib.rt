@@ -8,22 +8,19 @@ ghost use Rattle.definitions.specs.Outcome.{lengths, outcome};
 ghost use Rattle.definitions.specs.MapEntries.{lookup, adjust, range};
 ghost use Rattle.definitions.specs.Areas.{areas_of};
 ghost use Rattle.arena.specs.Lent.{Over, maps_of};
-ghost use Rattle.faults.specs.Checking.{report_of};
 ghost use Rattle.compact.specs.Answer.{keep_of};
-ghost use Rattle.cadnohal.specs.Boundary.{abi, keep_word, placed};
-ghost use Rattle.cadnohal.specs.Boundary.{answer_of, answer_to, outcome_in, adjusted_in, ranged_in};
+ghost use Rattle.cadnohal.specs.Boundary.{abi, keep_word, refused, counted};
+ghost use Rattle.cadnohal.specs.Boundary.{answer_to, outcome_in, adjusted_in, ranged_in};
 
-use arena::N;
-use compact::{Compacted, KeepUnused};
-use faults::Verdict;
-use handle_map::{Adjusted, Ranged};
+use arena::{ModuleMap, ModuleMapMut, ModuleMut, N};
+use compact::{Counts, Fault, KeepUnused};
 
 // `CADNOHAL_ABI` of the header.
 pub const ABI: u32 = 2;
 
 // `cadnohal_answer`: where a module was refused and why, or how many records of areas 0 to 6 were kept.
 #[repr(C)]
-#[derive(Clone, Copy)]
+#[derive(Clone, Copy, Default)]
 pub struct Answer {
     pub number: u32,
     pub area: u32,
@@ -67,38 +64,32 @@ fn keep_from(word: u32) -> KeepUnused
     ensures { keep_of result ≡ keep_word word }
 {
     if word == 0 {
-        return KeepUnused::No;
-    }
-    KeepUnused::Yes
-}
-
-// A refusal, with counts 0; number 0 is no refusal.
-fn refusal(number: u32, area: u32, record: u32) -> Answer
-    ensures { result ≡ placed number area «record» }
-{
-    Answer {
-        number: number,
-        area: area,
-        record: record,
-        types: 0,
-        constants: 0,
-        overrides: 0,
-        globals: 0,
-        expressions: 0,
-        members: 0,
-        components: 0,
+        KeepUnused::No
+    } else {
+        KeepUnused::Yes
     }
 }
 
-// What `compact` answered, in ten words.
-fn of_compacted(r: Compacted) -> Answer
-    ensures { result ≡ answer_of r }
-{
-    match r {
-        Compacted::Kept(n) => Answer {
-            number: 0,
-            area: 0,
-            record: 0,
+// A refusal, with counts 0.
+impl From<Fault> for Answer {
+    ghost from_gives = { λ f a. a ≡ refused f };
+
+    fn from(f: Fault) -> Answer {
+        Answer {
+            number: f.number,
+            area: f.area,
+            record: f.record,
+            ..Answer::default()
+        }
+    }
+}
+
+// An accepted module, with number and place 0.
+impl From<Counts> for Answer {
+    ghost from_gives = { λ n a. a ≡ counted n };
+
+    fn from(n: Counts) -> Answer {
+        Answer {
             types: n.types,
             constants: n.constants,
             overrides: n.overrides,
@@ -106,18 +97,8 @@ fn of_compacted(r: Compacted) -> Answer
             expressions: n.expressions,
             members: n.members,
             components: n.components,
-        },
-        Compacted::Refused(f) => refusal(f.number, f.area, f.record),
-    }
-}
-
-// What `faults::check` answered, in ten words.
-fn of_verdict(v: Verdict) -> Answer
-    ensures { result ≡ answer_to (report_of v) }
-{
-    match v {
-        Verdict::Accepted => refusal(0, 0, 0),
-        Verdict::Refused(f) => refusal(f.number, f.area, f.record),
+            ..Answer::default()
+        }
     }
 }
 
@@ -144,22 +125,29 @@ pub extern "C" fn cadnohal_compact(
         type_map constant_map override_map global_map expression_map }
 {
     let r = compact::compact(
-        types,
-        constants,
-        overrides,
-        globals,
-        expressions,
-        members,
-        components,
-        mentions,
-        type_map,
-        constant_map,
-        override_map,
-        global_map,
-        expression_map,
+        ModuleMut {
+            types,
+            constants,
+            overrides,
+            globals,
+            expressions,
+            members,
+            components,
+            mentions,
+        },
+        ModuleMapMut {
+            types: type_map,
+            constants: constant_map,
+            overrides: override_map,
+            globals: global_map,
+            expressions: expression_map,
+        },
         keep_from(keep_unused),
     );
-    of_compacted(r)
+    match r {
+        Ok(n) => Answer::from(n),
+        Err(f) => Answer::from(f),
+    }
 }
 
 // `faults::check`: numbers 1 to 7, or 0 for a module that `cadnohal_compact` would accept. Nothing is written.
@@ -184,7 +172,7 @@ pub extern "C" fn cadnohal_check<'a>(
         members.now components.now mentions.now)
         (lengths (maps_of type_map.now constant_map.now override_map.now global_map.now expression_map.now)))) }
 {
-    let v = faults::check(
+    let m = [
         types,
         constants,
         overrides,
@@ -193,13 +181,18 @@ pub extern "C" fn cadnohal_check<'a>(
         members,
         components,
         mentions,
-        type_map,
-        constant_map,
-        override_map,
-        global_map,
-        expression_map,
-    );
-    of_verdict(v)
+    ];
+    let maps = ModuleMap {
+        types: type_map,
+        constants: constant_map,
+        overrides: override_map,
+        globals: global_map,
+        expressions: expression_map,
+    };
+    match faults::check(&m, &maps) {
+        Ok(()) => Answer::default(),
+        Err(f) => Answer::from(f),
+    }
 }
 
 // `handle_map::lookup`: the new handle, or N.
@@ -216,16 +209,12 @@ pub extern "C" fn cadnohal_adjust(map: &[u32], handle: u32) -> AdjustedAnswer
     ensures { adjusted_in result ≡ adjust map.now handle }
 {
     match handle_map::adjust(map, handle) {
-        Adjusted::To(h) => AdjustedAnswer {
+        Ok(h) => AdjustedAnswer {
             number: 0,
             handle: h,
         },
-        Adjusted::PastEnd => AdjustedAnswer {
-            number: 8,
-            handle: N,
-        },
-        Adjusted::Dropped => AdjustedAnswer {
-            number: 9,
+        Err(e) => AdjustedAnswer {
+            number: e.number(),
             handle: N,
         },
     }
@@ -237,13 +226,13 @@ pub extern "C" fn cadnohal_adjust_range(map: &[u32], start: u32, end: u32) -> Ra
     ensures { ranged_in result ≡ range map.now start end }
 {
     match handle_map::adjust_range(map, start, end) {
-        Ranged::Span(a, b) => RangeAnswer {
+        Ok((a, b)) => RangeAnswer {
             number: 0,
             start: a,
             end: b,
         },
-        Ranged::Refused => RangeAnswer {
-            number: 8,
+        Err(e) => RangeAnswer {
+            number: e.number(),
             start: N,
             end: N,
         },

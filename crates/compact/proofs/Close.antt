@@ -1,6 +1,6 @@
 -- What the stages of `compact` leave is the outcome.
 -- Assumes nothing.
-use mathlib.Core.Path.{◌≡◌, sym, ap, subst, ◌∙◌}
+use mathlib.Core.Path.{◌≡◌, refl, sym, ap, subst, ◌∙◌}
 use mathlib.Core.Bool.{Bool}
 use mathlib.Core.List.{List}
 use Prim.Native.Nat.{ℕ, ◌/◌, ◌≤◌, ◌<◌}
@@ -8,6 +8,7 @@ use native.Mathlib.Nat.{div-one}
 use native.Mathlib.Omega.{arith}
 use lib.ListN.{length, get_or}
 use lib.Dec.{T, eqb, leb, eqb→eq, leb→le, lit<}
+use Rattle.std.specs.Prelude.{⊤, Result, Ok, Err, IfOk}
 use Rattle.definitions.specs.Areas.{N, Areas, Arena, types, constants, overrides, globals, expressions, Elem, size, width, words, pool, records_of, length_of, all_words, widths}
 use Rattle.definitions.specs.References.{span}
 use Rattle.definitions.specs.Sweep.{kept}
@@ -19,21 +20,19 @@ use Rattle.definitions.proofs.Accepted.{Sound, facts, number-passes, areas-all, 
 use Rattle.definitions.proofs.Kept.{kept-inside}
 use Rattle.definitions.proofs.ListLaws.{total-any}
 use Rattle.definitions.proofs.Counts.{run-words}
-use Rattle.arena.specs.Sizes.{sizes_of}
 use Rattle.arena.specs.declared.sizes.Sizes.{Sizes}
 use Rattle.faults.specs.Checking.{report_of, verdict_of}
-use Rattle.faults.proofs.Once.{verdict-told}
-use Rattle.faults.specs.declared.Verdict.{Verdict}
 use Rattle.faults.specs.declared.Fault.{Fault}
-use Rattle.faults.specs.declared.Verdict.TheVariants as verdict
-use Rattle.compact.specs.Answer.{counts_of, Compacts}
-use Rattle.compact.specs.Stages.{Accepts, MarksKept, verdict_in, MarkedBy, Judges, Numbers, Rewrites}
-use Rattle.compact.specs.declared.judge.Judged.{Judged}
-use Rattle.compact.specs.declared.judge.Judged.TheVariants as judged
+use Rattle.faults.proofs.Once.{verdict-told}
+use denote.Enum.Bare.{sameb}
+use Rattle.compact.specs.contracts.KeepUnused.{the_type}
+use Rattle.compact.specs.declared.KeepUnused.{KeepUnused}
+use Rattle.compact.specs.declared.KeepUnused.TheVariants.{No, Yes}
+use Rattle.compact.specs.Answer.{keep_of, counts_of, Compacts}
+use Rattle.compact.specs.Stages.{Accepts, MarksKept, verdict_in, Judges, maps_by, counts_by, Numbers, Rewrites}
 use Rattle.compact.specs.declared.Counts.{Counts}
 use Rattle.compact.specs.declared.number.RecordCounts.{RecordCounts}
 use Rattle.compact.specs.declared.rewrite.PoolCounts.{PoolCounts}
-use Rattle.compact.specs.declared.Compacted.TheVariants.{Kept, Refused}
 use Rattle.compact.proofs.Numbers.{kept_records, maps-due, counts-due}
 use Rattle.compact.proofs.Rewrites.{kept_pools, rewritten}
 
@@ -42,19 +41,19 @@ use Rattle.compact.proofs.Rewrites.{kept_pools, rewritten}
 -- a module with that verdict passes
 passing : (s : Areas) (p : Maps) → check s (lengths p) ≡ accepted → T (passes (check s (lengths p)))
 unfolding passes
-passing s p e = subst (λ v. T (passes v)) (sym e) tt
+passing s p e = rw e tt
 
-module _ (s : Areas) (p : Maps) {v : Verdict} (e : report_of v ≡ reported (check s (lengths p))) where
+module _ (s : Areas) (p : Maps) {v : Result ⊤ Fault} (e : report_of v ≡ reported (check s (lengths p))) where
   -- an accepted module passes
-  pub accepts : v ≡ verdict.Accepted → Accepts s
+  pub accepts : {x : ⊤} → v ≡ Ok x → Accepts s
   accepts q = (lengths p, passing s p (sym (verdict-told v (check s (lengths p)) e) ∙ ap verdict_of q))
 
   -- and is told with its sizes and marks
-  pub judges-accepted : v ≡ verdict.Accepted → {keep : Bool} {z : Sizes} {ws : List ℕ} → MarksKept s keep z ws → Judges keep (judged.Accepted z) s p ws
+  pub judges-accepted : {x : ⊤} → v ≡ Ok x → {keep : Bool} {z : Sizes} {ws : List ℕ} → MarksKept s keep z ws → Judges keep (Ok z) s p ws
   judges-accepted q k = record { verdict-is = sym (ap verdict_of q) ∙ verdict-told v (check s (lengths p)) e; marks-are = k }
 
   -- a refused one with its fault
-  pub judges-refused : {f : Fault} → v ≡ verdict.Refused f → {keep : Bool} {ws : List ℕ} → Judges keep (judged.Refused f) s p ws
+  pub judges-refused : {f : Fault} → v ≡ Err f → {keep : Bool} {ws : List ℕ} → Judges keep (Err f) s p ws
   judges-refused q = record { verdict-is = sym (ap verdict_of q) ∙ verdict-told v (check s (lengths p)) e; marks-are = tt }
 
 -- ---- an accepted module
@@ -99,6 +98,11 @@ counts_with n k =
       components = k.components;
     }
 
+-- the flag that is asked for
+pub is-yes : (k : KeepUnused) → sameb the_type k Yes ≡ keep_of k
+is-yes No = refl
+is-yes Yes = refl
+
 -- what the stages leave of an accepted module
 record Done (s : Areas) (p : Maps) (m : List Elem) (n : RecordCounts) (k : PoolCounts) (s' : Areas) (p' : Maps) : Type 0 where
   counts-are : n ≡ kept_records s m
@@ -106,14 +110,14 @@ record Done (s : Areas) (p : Maps) (m : List Elem) (n : RecordCounts) (k : PoolC
   areas-are : s' ≡ areas_after s m
   maps-are : p' ≡ maps_after s m p
 
-module _ (s : Areas) (p : Maps) {keep : Bool} {v : Judged} {z : Sizes} {ws : List ℕ} {n : RecordCounts} {k : PoolCounts} {s' : Areas} {p' : Maps}
-    (j : Judges keep v s p ws) (q : v ≡ judged.Accepted z) (f : Numbers ws z n p p') (r : Rewrites z n k s p' s')
+module _ (s : Areas) (p : Maps) {keep : Bool} {v : Result Sizes Fault} {z : Sizes} {ws : List ℕ} {n : RecordCounts} {k : PoolCounts} {s' : Areas} {p' : Maps}
+    (j : Judges keep v s p ws) (q : v ≡ Ok z) (f : Numbers ws z n p p') (r : Rewrites z n k s p' s')
   where
     accepted-so : check s (lengths p) ≡ accepted
     accepted-so = sym j.verdict-is ∙ ap verdict_in q
 
     marked : MarksKept s keep z ws
-    marked = subst (λ v. MarkedBy keep v s ws) q j.marks-are
+    marked = subst (λ v. IfOk v (λ z. MarksKept s keep z ws)) q j.marks-are
 
     passed : T (passes (check s (lengths p)))
     passed = passing s p accepted-so
@@ -122,26 +126,19 @@ module _ (s : Areas) (p : Maps) {keep : Bool} {v : Judged} {z : Sizes} {ws : Lis
     sound = (facts s (lengths p) passed).sound
 
     done : Done s p (kept s keep) n k s' p'
-    done = go marked.0 f r
-      where
-        go : {z : Sizes} → z ≡ sizes_of s → Numbers ws z n p p' → Rewrites z n k s p' s' → Done s p (kept s keep) n k s' p'
-        go e f r =
-            let g : Numbers ws (sizes_of s) n p p' = subst (λ z. Numbers ws z n p p') e f in
-            let ne = g.counts-are ∙ counts-due s ws (kept s keep) marked.1 p (map-room s p passed) in
-            let pe = g.maps-are ∙ maps-due s ws (kept s keep) marked.1 p (map-room s p passed) in
-            let h : Rewrites (sizes_of s) (kept_records s (kept s keep)) k s (maps_after s (kept s keep) p) s' =
-            subst (λ p'. Rewrites (sizes_of s) (kept_records s (kept s keep)) k s p' s') pe
-            (subst (λ n. Rewrites (sizes_of s) n k s p' s') ne (subst (λ z. Rewrites z n k s p' s') e r)) in
-            let w = rewritten s (kept s keep) p sound (kept-inside s sound keep) h in
-            record { counts-are = ne; pools-are = w.1; areas-are = w.0; maps-are = pe }
+    done =
+        let room = map-room s p passed in
+        let ne = f.counts-are ∙ ap (λ z. counts_by ws z p) marked.0 ∙ counts-due s ws (kept s keep) marked.1 p room in
+        let pe = f.maps-are ∙ ap (λ z. maps_by ws z p) marked.0 ∙ maps-due s ws (kept s keep) marked.1 p room in
+        let w = rewritten s (kept s keep) p sound (kept-inside s sound keep) (rw (marked.0, ne, pe) at r) in
+        record { counts-are = ne; pools-are = w.1; areas-are = w.0; maps-are = pe }
 
     -- the pools' counts are words
     pub words-few : (k.members < N) × (k.components < N)
-    words-few =
-        subst (λ k. (k.members < N) × (k.components < N)) (sym done.pools-are) (pools-few s sound (kept s keep))
+    words-few = rw done.pools-are (pools-few s sound (kept s keep))
 
     -- the answer, every area and every map, for the flag that was asked for
-    pub accepted-closes : {keep' : Bool} → keep ≡ keep' → Compacts keep' (Kept (counts_with n k)) s p s' p'
+    pub accepted-closes : {keep' : Bool} → keep ≡ keep' → Compacts keep' (Ok (counts_with n k)) s p s' p'
     unfolding passes outcome outcome_of kept_counts
     accepted-closes e =
         record {
@@ -162,8 +159,8 @@ module _ (s : Areas) (p : Maps) {keep : Bool} {v : Judged} {z : Sizes} {ws : Lis
 
 -- ---- a refusal
 
-pub refused-closes : (s : Areas) (p : Maps) (keep : Bool) {keep' : Bool} {v : Judged} {ws : List ℕ} {f : Fault}
-    → Judges keep' v s p ws → v ≡ judged.Refused f → Compacts keep (Refused f) s p s p
+pub refused-closes : (s : Areas) (p : Maps) (keep : Bool) {keep' : Bool} {v : Result Sizes Fault} {ws : List ℕ} {f : Fault}
+    → Judges keep' v s p ws → v ≡ Err f → Compacts keep (Err f) s p s p
 unfolding outcome outcome_of passes
 refused-closes s p keep j q =
     let e = sym (ap verdict_in q) ∙ j.verdict-is in

@@ -1,6 +1,6 @@
 -- What each stage of `compact` promises, for any words: verdict and marks, maps by the marks, areas by the maps.
 -- Assumes nothing.
-use Rattle.std.specs.Prelude.{◌≡◌, Bool, ◌&&◌, cond, List, ℕ, min, length, T, eqb}
+use Rattle.std.specs.Prelude.{◌≡◌, Bool, ◌&&◌, cond, List, ℕ, min, length, T, eqb, Result, Ok, Err, IfOk}
 use Rattle.definitions.specs.Areas.{Words, Areas}
 use Rattle.definitions.specs.Areas.{Arena, types, constants, overrides, globals, expressions}
 use Rattle.definitions.specs.Sweep.{kept}
@@ -11,10 +11,9 @@ use Rattle.arena.specs.HandleSet.{bases, base}
 use Rattle.arena.specs.Marks.{Marks}
 use Rattle.arena.specs.Sizes.{sizes_of, size_in}
 use Rattle.arena.specs.declared.sizes.Sizes.{Sizes}
+use Rattle.faults.specs.declared.Fault.{Fault}
 use Rattle.handle_map.specs.FromSet.{in_set, mapped}
 use Rattle.adjust.specs.Rewrite.{runs_by, areas_by}
-use Rattle.compact.specs.declared.judge.Judged.{Judged}
-use Rattle.compact.specs.declared.judge.Judged.TheVariants.{Accepted, Refused}
 use Rattle.compact.specs.declared.number.RecordCounts.{RecordCounts}
 use Rattle.compact.specs.declared.rewrite.PoolCounts.{PoolCounts}
 
@@ -29,19 +28,14 @@ abbrev pub MarksKept : Areas → Bool → Sizes → List ℕ → Type 0
 MarksKept s keep z ws = (z ≡ sizes_of s) × Marks s ws (kept s keep)
 
 -- the verdict of document 01 that it is
-abbrev pub verdict_in : Judged → Verdict
-verdict_in (Accepted z) = accepted
-verdict_in (Refused f) = refused f.number f.area f.record
+abbrev pub verdict_in : {A : Type 0} → Result A Fault → Verdict
+verdict_in (Ok x) = accepted
+verdict_in (Err f) = refused f.number f.area f.record
 
--- where it accepts: its sizes are told, and what is kept is in the words
-abbrev pub MarkedBy : Bool → Judged → Areas → List ℕ → Type 0
-MarkedBy keep (Accepted z) s ws = MarksKept s keep z ws
-MarkedBy keep (Refused f) s ws = Unit {0}
-
--- the verdict and the marks
-pub record Judges (keep : Bool) (v : Judged) (s : Areas) (p : Maps) (ws : List ℕ) : Type 0 where
-  pub verdict-is : verdict_in v ≡ check s (lengths p)
-  pub marks-are : MarkedBy keep v s ws
+-- the verdict; where it accepts, the sizes are told, and what is kept is in the words
+pub record Judges (keep : Bool) (r : Result Sizes Fault) (s : Areas) (p : Maps) (ws : List ℕ) : Type 0 where
+  pub verdict-is : verdict_in r ≡ check s (lengths p)
+  pub marks-are : IfOk r (λ z. MarksKept s keep z ws)
 
 -- ---- number
 
@@ -62,7 +56,7 @@ abbrev pub count_by : List ℕ → Sizes → Arena → Words → ℕ
 count_by ws z a old = rank (marked ws z a) (room_for z a old)
 
 -- the five maps
-unfoldable pub maps_by : List ℕ → Sizes → Maps → Maps
+abbrev pub maps_by : List ℕ → Sizes → Maps → Maps
 maps_by ws z p =
     record {
       types = map_by ws z types p.types;
@@ -73,7 +67,7 @@ maps_by ws z p =
     }
 
 -- and the five counts
-unfoldable pub counts_by : List ℕ → Sizes → Maps → RecordCounts
+abbrev pub counts_by : List ℕ → Sizes → Maps → RecordCounts
 counts_by ws z p =
     record {
       types = count_by ws z types p.types;
@@ -91,14 +85,14 @@ pub record Numbers (ws : List ℕ) (z : Sizes) (r : RecordCounts) (p p' : Maps) 
 -- ---- rewrite
 
 -- are as many records kept as there are ?
-unfoldable pub loses_none : Sizes → RecordCounts → Bool
+abbrev pub loses_none : Sizes → RecordCounts → Bool
 loses_none z n =
     eqb n.types z.types && (eqb n.constants z.constants
     && (eqb n.overrides z.overrides && (eqb n.globals z.globals
     && eqb n.expressions z.expressions)))
 
 -- how many words of the pools are kept by them
-unfoldable pub pools_by : Maps → Areas → PoolCounts
+abbrev pub pools_by : Maps → Areas → PoolCounts
 pools_by p s =
     record {
       members = length (runs_by p.types types s.types s.members);
@@ -106,7 +100,7 @@ pools_by p s =
     }
 
 -- all words of the pools
-unfoldable pub pools_of : Areas → PoolCounts
+abbrev pub pools_of : Areas → PoolCounts
 pools_of s = record { members = length s.members; components = length s.components }
 
 -- the areas and the pools' counts by the maps; where no record is lost all stays as it was

@@ -10,7 +10,7 @@ use Rattle.definitions.proofs.Accepted.{as-area}
 use Rattle.arena.specs.Sizes.{sizes_of, counted_in}
 use Rattle.arena.specs.declared.sizes.Sizes.{Sizes}
 use Rattle.arena.proofs.Counting.{sizes-exact}
-use Rattle.faults.specs.Checking.{Measured}
+use Rattle.faults.specs.Measured.{Measured}
 
 -- what number 2 leaves of the arenas
 size_fits : (s : Areas) → Measured s → (a : Arena) → size s a < N

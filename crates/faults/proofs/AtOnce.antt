@@ -1,7 +1,7 @@
 -- Numbers 4 to 7 at once: a record that passes is good under each of them.
 -- Assumes nothing.
 use mathlib.Core.Path.{◌≡◌, refl, sym, ap, subst, ◌∙◌}
-use mathlib.Core.Bool.{Bool, true, false, ◌&&◌, ◌||◌, not, cond}
+use mathlib.Core.Bool.{Bool, true, false, ◌&&◌, not, cond}
 use mathlib.Core.Logic.{◌⊎◌, inr, ⊎_elim}
 use mathlib.Core.List.{List, [], ◌∷◌}
 use Prim.Native.Nat.{ℕ, zero, suc, ◌+◌, ◌-◌, ◌≤◌, ◌<◌, min}
@@ -9,6 +9,7 @@ use native.Mathlib.Decide.{ℕ_discrete}
 use native.Mathlib.Nat.{le_refl, le_trans, not-suc-le-zero}
 use native.Mathlib.Numerals.{add-one}
 use native.Mathlib.Omega.{arith}
+use Rattle.std.specs.Prelude.{None, Some}
 use lib.Dec.{T, eqb, ltb, lt→ltb, ltb→lt}
 use lib.ListN.{length}
 use borrow.Author.Tests.{lt-ltb, le-ltb, eqb-true, ne_eqb, eq-eqb}
@@ -27,10 +28,11 @@ use Rattle.rules.specs.declared.Rule.{Rule}
 use Rattle.rules.specs.declared.Rule.TheVariants.{Shaped, Held, Ordered}
 use Rattle.arena.specs.Sizes.{sizes_of, size_in}
 use Rattle.arena.specs.declared.sizes.Sizes.{Sizes}
-use Rattle.rules.specs.Rules.{within, good_by, leading}
+use Rattle.rules.specs.Rules.{bounded, within, good_by, leading}
 use Rattle.rules.proofs.Laws.{size_in_lem, leading_le}
 use Rattle.rules.proofs.AtOnce.{Enough, good-keeps, good-kind}
-use Rattle.faults.specs.Checking.{Measured, most, limits_at, bounds_at, looks_at, ok_at, carried_at, carried_to, places_in, places_at, owner_of, ok4, in_turn, scan_area, Passed, Used}
+use Rattle.faults.specs.Measured.{Measured}
+use Rattle.faults.specs.Checking.{most, limits_at, bounds_at, looks_at, ok_at, carried_at, carried_to, places_in, places_at, owner_of, ok4, in_turn, scan_area, Passed, Used}
 use Rattle.faults.proofs.Scans.{all-accepted, turns-accepted}
 use Rattle.faults.proofs.Arenas.{room_fits}
 use Rattle.faults.proofs.Tests.{looks-five, seven-looks, records, looks-there, pool-four, mention-four-six, record-four, record-six, record-seven, kind-other, mention-area, mention-handle}
@@ -46,9 +48,9 @@ is_true false t = absurd t
 pub not-both : false ≡ true → ⊥
 not-both e = subst T (sym e) tt
 
-right : (a b : Bool) → T b → T (a || b)
-right true b t = tt
-right false b t = t
+unless : (b : Bool) (n u : ℕ) → T (ltb u n) → T (bounded (cond b None (Some n)) u)
+unless true n u t = tt
+unless false n u t = t
 
 -- a list below a bound is below a larger one
 all-raised : (m n : ℕ) → m ≤ n → (l : List ℕ) → T (all (λ w. ltb w m) l) → T (all (λ w. ltb w n) l)
@@ -83,7 +85,7 @@ module _ (i before : ℕ) (z : Sizes) (run : Run) where
   unfolding limits_at bounds_at within
   enough-ordered n area o =
       ⊎_elim (λ e. at-keys Is (0 ∷ []) (((λ u l. lt→ltb u i l), (λ e l. tt)), tt) area e)
-      (λ e. at-keys Is (4 ∷ []) (((λ u l. right (eqb before n) (ltb u before) (lt→ltb u before l)), (λ e l. lt→ltb e i l)), tt) area e) o
+      (λ e. at-keys Is (4 ∷ []) (((λ u l. unless (eqb before n) before u (lt→ltb u before l)), (λ e l. lt→ltb e i l)), tt) area e) o
     where
       Is : ℕ → Type 0
       Is area = Enough (limits_at area i before z run) (Ordered (bounds_at area i before n))

@@ -36,11 +36,6 @@ module _ (s : Areas) (n a i : ℕ) where
   unfolding carried_at
   no-leading e q = rw (e, ne_eqb a 4 q)
 
-  -- the others carry nothing
-  pub nothing-else : (n ≡ 4 → ⊥) → (n ≡ 7 → ⊥) → nothing ≡ carried_at s n a i
-  unfolding carried_at
-  nothing-else p q = rw (ne_eqb n 4 p, ne_eqb n 7 q)
-
 module _ (s : Areas) where
   -- nothing is handed to the first record
   pub handed-none : (n a : ℕ) → nothing ≡ carried_to s n a 0

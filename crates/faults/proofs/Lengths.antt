@@ -1,37 +1,29 @@
 -- Numbers 1 to 3: what each asks of an area, and of how many areas.
 -- Assumes nothing.
-use mathlib.Core.Path.{◌≡◌, refl}
+use mathlib.Core.Path.{◌≡◌}
 use mathlib.Core.List.{List}
-use Prim.Native.Nat.{ℕ, zero, suc, ◌%◌, ◌/◌, ◌≤◌, ◌<◌}
+use Prim.Native.Nat.{ℕ, ◌%◌, ◌/◌, ◌≤◌, ◌<◌}
 use native.Mathlib.Omega.{arith}
 use lib.Dec.{eqb, ltb, leb, ltb→lt}
 use lib.ListN.{get_or}
-use borrow.Author.Tests.{ne_eqb}
 use Rattle.definitions.specs.Lists.{all}
 use Rattle.definitions.specs.Areas.{Areas, width, widths, limits, length_of, records_of}
 use Rattle.definitions.proofs.Judged.{all-at}
-use Rattle.faults.specs.Checking.{area_ok, areas_at}
+use Rattle.faults.specs.declared.areas.Number.{Number}
+use Rattle.faults.specs.declared.areas.Number.TheVariants.{Whole, Few, Mapped}
+use Rattle.faults.specs.Checking.{by_lengths, area_ok, areas_at}
 
--- numbers 1 and 2 look at all areas
-pub all-areas : (n : ℕ) → 1 ≤ n → n < 3 → areas_at n ≡ 8
+-- no number looks past the last area
+pub areas-le : (n : Number) → areas_at (by_lengths n) ≤ 8
 unfolding areas_at
-all-areas zero a b = absurd (omega arith)
-all-areas (suc zero) a b = refl
-all-areas (suc (suc zero)) a b = refl
-all-areas (suc (suc (suc n))) a b = absurd (omega arith)
+areas-le Whole = omega arith
+areas-le Few = omega arith
+areas-le Mapped = omega arith
 
--- any other at the arenas
-pub arenas : (n : ℕ) → (n ≡ 1 → ⊥) → (n ≡ 2 → ⊥) → areas_at n ≡ 5
+-- and number 3 past the last arena
+pub mapped : (n a : ℕ) → n ≡ 3 → a < areas_at n → a < 5
 unfolding areas_at
-arenas n p q = rw (ne_eqb n 1 p, ne_eqb n 2 q)
-
--- so none looks past the last
-pub areas-le : (n : ℕ) → areas_at n ≤ 8
-unfolding areas_at
-areas-le zero = omega arith
-areas-le (suc zero) = omega arith
-areas-le (suc (suc zero)) = omega arith
-areas-le (suc (suc (suc n))) = rw (arenas (suc (suc (suc n))) (λ e. omega arith) (λ e. omega arith)) (omega arith)
+mapped n a e l = rw e at l
 
 -- no record is empty
 pub wide : (a : ℕ) → a < 8 → 0 < get_or widths a 1
@@ -47,6 +39,6 @@ module _ (s : Areas) (maps : List ℕ) (n a l w : ℕ) (p : l ≡ length_of s a)
   unfolding area_ok records_of
   few m q t = rw (p, e, q, t)
 
-  pub roomy : (n ≡ 1 → ⊥) → (n ≡ 2 → ⊥) → leb (l / w) (get_or maps a 0) ≡ area_ok s maps n a
+  pub roomy : n ≡ 3 → leb (l / w) (get_or maps a 0) ≡ area_ok s maps n a
   unfolding area_ok records_of
-  roomy q t = rw (p, e, ne_eqb n 1 q, ne_eqb n 2 t)
+  roomy q = rw (p, e, q)

@@ -1,27 +1,22 @@
--- The numbers in turn: the check of document 01 is that of the code's loops.
+-- The numbers in turn: the check of document 01 is that of the code.
 -- Assumes nothing.
 use mathlib.Core.Path.{◌≡◌, refl, sym, ap, subst, ◌∙◌}
-use mathlib.Core.Bool.{◌&&◌}
-use mathlib.Core.List.{List}
-use Prim.Native.Nat.{ℕ, ◌+◌, ◌-◌, ◌≤◌, ◌<◌}
-use native.Mathlib.Decide.{ℕ_discrete}
-use native.Mathlib.Nat.{not-suc-le-zero, sub-zero, zero-add}
+use mathlib.Core.List.{List, [], ◌∷◌, map}
+use Prim.Native.Nat.{ℕ, ◌≤◌, ◌<◌}
 use native.Mathlib.Omega.{arith}
-use lib.Dec.{T, ltb, leb, eqb→eq, leb→le, ltb→lt}
-use lib.ListN.{length, get_or, take, drop}
-use lib.Seq.{get_or-take, get_or-drop}
-use Rattle.definitions.specs.Lists.{all}
+use lib.Dec.{T, eqb→eq}
+use Rattle.std.specs.Prelude.{⊤, Result, Ok, Err}
 use Rattle.definitions.specs.Areas.{Areas, area_number, numbered, widths, length_of, all_words}
-use Rattle.definitions.specs.Refusals.{Verdict, accepted, passes, reported, scan, scan_areas, scan_records, scan_mentions, pool_used, check1, check2, check3, check4, check5, check6, check7, under, turns, position, turn, check}
-use Rattle.definitions.proofs.Least.{Each, and_left, and_right}
-use Rattle.definitions.proofs.Turns.{Listed, at_turn, each_at}
-use Rattle.definitions.proofs.Judged.{all-at}
+use Rattle.definitions.specs.Refusals.{Verdict, accepted, refused, first_of, passes, reported, scan, scan_areas, scan_records, scan_mentions, pool_used, check1, check2, check3, check4, check5, check6, check7, under, turns, check}
 use Rattle.definitions.proofs.Accepted.{areas-all, area-few}
 use Rattle.faults.specs.declared.Fault.{Fault}
-use Rattle.faults.specs.declared.Verdict as code
-use Rattle.faults.specs.declared.Verdict.TheVariants.{Accepted, Refused}
-use Rattle.faults.specs.Checking.{report_of, verdict_of, area_ok, areas_at, in_turn, scan_area, ok_at, ok4, ok6, owner_of, looks_at, places_in, Measured}
-use Rattle.faults.proofs.Scans.{first_on, first-stop, turn-open, turn_end, turns-accepted, list-turn, none, also, skipped, last}
+use Rattle.faults.specs.declared.areas.Number as lengths
+use Rattle.faults.specs.declared.areas.Number.TheVariants.{Whole, Few, Mapped}
+use Rattle.faults.specs.declared.places.Number as places
+use Rattle.faults.specs.declared.places.Number.TheVariants.{Shaped, Scoped, Held, Ordered}
+use Rattle.faults.specs.Measured.{Measured}
+use Rattle.faults.specs.Checking.{report_of, verdict_of, by_lengths, by_places, area_ok, areas_at, in_turn, scan_area, ok_at, ok4, ok6, owner_of, looks_at, places_in}
+use Rattle.faults.proofs.Scans.{none, also, skipped, last, one}
 
 -- opens the places of every number
 opened : ℕ
@@ -32,124 +27,75 @@ passing : {v : Verdict} → v ≡ accepted → T (passes v)
 unfolding passes
 passing e = subst (λ v. T (passes v)) (sym e) tt
 
--- the number at a turn
-abbrev pub number_at : ℕ → ℕ
-number_at i = get_or turns i 0
+-- the numbers that go by the places
+least : (n : places.Number) → 4 ≤ by_places n
+least Shaped = omega arith
+least Scoped = omega arith
+least Held = omega arith
+least Ordered = omega arith
 
--- how many of the numbers, the first, go by the areas' lengths
-abbrev pub by_lengths : ℕ
-by_lengths = 3
+most : (n : places.Number) → by_places n < 8
+most Shaped = omega arith
+most Scoped = omega arith
+most Held = omega arith
+most Ordered = omega arith
 
--- the others are what is left of the list
-later : (i : ℕ) → by_lengths ≤ i → get_or (drop by_lengths turns) (i - by_lengths) 0 ≡ number_at i
-later i l = let q : by_lengths + (i - by_lengths) ≡ i = omega arith in get_or-drop by_lengths turns (i - by_lengths) 0 ∙ ap number_at q
-
--- they are numbers that the places' tests know
-pub places-known : (i : ℕ) → by_lengths ≤ i → i < length turns → (4 ≤ number_at i) × (number_at i < 8)
-unfolding turns all
-places-known i l h =
-    let t = all-at (λ n. leb 4 n && ltb n 8) (drop by_lengths turns) 0 tt (i - by_lengths) (omega arith) in
-    let n = get_or (drop by_lengths turns) (i - by_lengths) 0 in
-    let k : (4 ≤ n) × (n < 8) = (leb→le 4 n (and_left (leb 4 n) (ltb n 8) t), ltb→lt n 8 (and_right (leb 4 n) (ltb n 8) t)) in
-    subst (λ n. (4 ≤ n) × (n < 8)) (later i l) k
+-- the report is that of the verdict
+report-told : (r : Result ⊤ Fault) → report_of r ≡ reported (verdict_of r)
+report-told (Ok u) = refl
+report-told (Err f) = refl
 
 module _ (s : Areas) (maps : List ℕ) where
-  -- the verdict under the number at a turn
-  abbrev pub tried : ℕ → Verdict
-  tried i = under s maps (number_at i)
+  -- a number's verdict is that of its areas
+  pub lengths-judged : (n : lengths.Number) → scan_areas (by_lengths n) (area_ok s maps (by_lengths n)) (areas_at (by_lengths n)) ≡ under s maps (by_lengths n)
+  unfolding under check1 check2 check3 area_ok areas_at
+  lengths-judged Whole = refl
+  lengths-judged Few = refl
+  lengths-judged Mapped = refl
 
-  -- the number's verdict is that of its areas, or of its places
-  abbrev ByLengths : ℕ → Type 0
-  ByLengths n = under s maps n ≡ scan_areas n (area_ok s maps n) (areas_at n)
+  -- or of its places
+  pub places-judged : (n : places.Number) {t : Areas} → t ≡ s → in_turn (scan_area t (by_places n)) 0 8 ≡ under s maps (by_places n)
+  unfolding under check4 check5 check6 check7 opened
+  places-judged Shaped e = rw e (sym (also _ _ (also _ _ (also _ _ (also _ _ (also _ _ (also _ _ (also _ _ (also _ _ none)))))))))
+  places-judged Scoped e = rw e (sym (skipped (skipped (skipped (skipped (last _ (skipped (skipped (skipped refl)))))))))
+  places-judged Held e = rw e (sym (also _ _ (also _ _ (also _ _ (also _ _ (also _ _ (skipped (skipped (also _ _ none)))))))))
+  places-judged Ordered e = rw e (sym (also _ _ (skipped (skipped (skipped (also _ _ (none ∙ skipped (skipped (skipped refl)))))))))
 
-  abbrev ByPlaces : ℕ → Type 0
-  ByPlaces n = under s maps n ≡ in_turn (scan_area s n) 0 8
+  -- the numbers that are left decide, since those before accept
+  pub record Left (l : List ℕ) : Type 0 where
+    pub decide : first_of (map (under s maps) l) ≡ check s maps
 
-  -- of the areas for the first turns
-  lengths-judged : Each ByLengths (take by_lengths turns)
-  unfolding turns under check1 check2 check3 area_ok areas_at
-  lengths-judged = (refl, (refl, (refl, tt)))
+  -- at first all are
+  pub all-left : Left (1 ∷ 2 ∷ 3 ∷ 4 ∷ 5 ∷ 6 ∷ 7 ∷ [])
+  unfolding check turns
+  all-left = record { decide = refl }
 
-  stage4 : check4 s ≡ in_turn (scan_area s 4) 0 8
-  unfolding check4 opened
-  stage4 = also _ _ (also _ _ (also _ _ (also _ _ (also _ _ (also _ _ (also _ _ (also _ _ none)))))))
+  -- the next accepts
+  pub goes_on : {n : ℕ} {l : List ℕ} → Left (n ∷ l) → accepted ≡ under s maps n → Left l
+  unfolding first_of
+  goes_on {l = l} h e = record { decide = ap (λ v. first_of (v ∷ map (under s maps) l)) e ∙ h.decide }
 
-  stage5 : check5 s ≡ in_turn (scan_area s 5) 0 8
-  unfolding check5 opened
-  stage5 = skipped (skipped (skipped (skipped (last _ (skipped (skipped (skipped refl)))))))
+  -- the next refuses
+  pub stops : {n : ℕ} {l : List ℕ} {k a i : ℕ} → Left (n ∷ l) → refused k a i ≡ under s maps n → reported (refused k a i) ≡ reported (check s maps)
+  unfolding first_of
+  stops {l = l} h e = ap reported (ap (λ v. first_of (v ∷ map (under s maps) l)) e ∙ h.decide)
 
-  stage6 : check6 s ≡ in_turn (scan_area s 6) 0 8
-  unfolding check6 opened
-  stage6 = also _ _ (also _ _ (also _ _ (also _ _ (also _ _ (skipped (skipped (also _ _ none)))))))
+  -- the last decides
+  pub ends : {n : ℕ} (r : Result ⊤ Fault) → Left (n ∷ []) → verdict_of r ≡ under s maps n → report_of r ≡ reported (check s maps)
+  ends r h e = report-told r ∙ ap reported (e ∙ sym (one _) ∙ h.decide)
 
-  stage7 : check7 s ≡ in_turn (scan_area s 7) 0 8
-  unfolding check7 opened
-  stage7 = also _ _ (skipped (skipped (skipped (also _ _ (none ∙ skipped (skipped (skipped refl)))))))
+  -- all accept
+  pub no-fault : Left (4 ∷ 5 ∷ 6 ∷ 7 ∷ []) → {t : Areas} → t ≡ s → ((n : ℕ) → 4 ≤ n → n < 8 → in_turn (scan_area t n) 0 8 ≡ accepted)
+      → report_of (Ok tt) ≡ reported (check s maps)
+  no-fault h e f = ap reported (sym none ∙ (goes_on (goes_on (goes_on (goes_on h (each Shaped)) (each Scoped)) (each Held)) (each Ordered)).decide)
+    where
+      each : (n : places.Number) → accepted ≡ under s maps (by_places n)
+      each n = sym (f (by_places n) (least n) (most n)) ∙ places-judged n e
 
-  -- of the places for the others
-  places-judged : Each ByPlaces (drop by_lengths turns)
-  unfolding turns under
-  places-judged = (stage4, (stage5, (stage6, (stage7, tt))))
-
-  -- so at each turn
-  pub by_lengths_lem : (i : ℕ) {v : Verdict} → i < by_lengths → v ≡ scan_areas (number_at i) (area_ok s maps (number_at i)) (areas_at (number_at i))
-      → v ≡ tried i
-  unfolding turns
-  by_lengths_lem i l e =
-      e ∙ sym (subst ByLengths (get_or-take by_lengths turns i 0 l) (each_at ByLengths (take by_lengths turns) lengths-judged i l))
-
-  pub by-places : (i : ℕ) {v : Verdict} → by_lengths ≤ i → i < length turns → v ≡ in_turn (scan_area s (number_at i)) 0 8 → v ≡ tried i
-  unfolding turns
-  by-places i l h e =
-      e ∙ sym (subst ByPlaces (later i l) (each_at ByPlaces (drop by_lengths turns) places-judged (i - by_lengths) (omega arith)))
-
-  -- the turns from i on decide, since those before accept
-  pub record Reached (i : ℕ) : Type 0 where
-    pub left : in_turn tried i (length turns - i) ≡ check s maps
-    pub passed : (j : ℕ) → j < i → tried j ≡ accepted
-
-  pub from_first : Reached 0
-  unfolding check
-  from_first = record {
-    left = ap (in_turn tried 0) (sub-zero (length turns)) ∙ sym (list-turn (under s maps) tried 0 turns (λ j. ap tried (zero-add j)));
-    passed = λ j l. absurd (not-suc-le-zero l);
+  -- what numbers 1 and 2 leave
+  pub measured : accepted ≡ under s maps 1 → accepted ≡ under s maps 2 → Measured s
+  unfolding under check1 check2 length_of all_words widths
+  measured p q = record {
+    whole = eqb→eq _ 0 (areas-all 1 _ 8 (passing (sym p)) 0 (omega arith));
+    few = area-few s (areas-all 2 _ 8 (passing (sym q)));
   }
-
-  module _ (i : ℕ) (h : Reached i) where
-    -- one more accepts
-    pub goes_on : {v : code.Verdict} → i < length turns → verdict_of v ≡ tried i → v ≡ Accepted → Reached (i + 1)
-    goes_on l e q =
-        let a : tried i ≡ accepted = sym e ∙ ap verdict_of q in
-        record {
-          left = sym (turn-open tried i (length turns) l ∙ first_on _ a) ∙ h.left;
-          passed = λ j b. elim (ℕ_discrete j i) [ yes p ↦ ap tried p ∙ a | no p ↦ h.passed j (omega arith) ];
-        }
-
-    -- one refuses
-    pub stops : {v : code.Verdict} {f : Fault} → i < length turns → verdict_of v ≡ tried i → v ≡ Refused f
-        → report_of (Refused f) ≡ reported (check s maps)
-    stops l e q = ap reported (sym (turn-open tried i (length turns) l ∙ first-stop _ (sym e ∙ ap verdict_of q)) ∙ h.left)
-
-    -- none is left
-    pub ends : length turns ≤ i → report_of Accepted ≡ reported (check s maps)
-    ends l = ap reported (sym (turn_end tried i (length turns) l) ∙ h.left)
-
-    -- none of those that are left refuses
-    pub rest-accept : by_lengths ≤ i → i < length turns → ((n : ℕ) → 4 ≤ n → n < 8 → in_turn (scan_area s n) 0 8 ≡ accepted)
-        → report_of Accepted ≡ reported (check s maps)
-    rest-accept l o f = ap reported (sym (turns-accepted tried i (length turns - i) (λ j a b. each j (omega arith) (omega arith))) ∙ h.left)
-      where
-        each : (j : ℕ) → by_lengths ≤ j → j < length turns → tried j ≡ accepted
-        each j a b = let k = places-known j a b in sym (by-places j a b (sym (f (number_at j) k.0 k.1)))
-
-    -- a number whose turn is past accepts
-    accepts-past : (n : ℕ) → Listed n → turn n < i → under s maps n ≡ accepted
-    accepts-past n t l = ap (under s maps) (sym (at_turn n t)) ∙ h.passed (turn n) l
-
-    -- what numbers 1 and 2 leave
-    pub measured : by_lengths ≤ i → Measured s
-    unfolding under turn position turns check1 check2 length_of all_words widths
-    measured l = record {
-      whole = eqb→eq _ 0 (areas-all 1 _ 8 (passing (accepts-past 1 tt (omega arith))) 0 (omega arith));
-      few = area-few s (areas-all 2 _ 8 (passing (accepts-past 2 tt (omega arith))));
-    }

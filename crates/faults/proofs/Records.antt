@@ -1,12 +1,13 @@
 -- One record under numbers 4, 6 and 7: what crate `rules` asks of its words and its run is what document 01 asks.
 -- Assumes nothing.
 use mathlib.Core.Path.{◌≡◌, refl, sym, ap, ap₂, ◌∙◌}
-use mathlib.Core.Bool.{Bool, true, false, ◌&&◌}
+use mathlib.Core.Bool.{Bool, true, false, ◌&&◌, ◌||◌, cond}
 use mathlib.Core.Logic.{◌⊎◌, ⊎_elim}
 use mathlib.Core.List.{List, [], ◌∷◌, ◌++◌, map}
 use Prim.Native.Nat.{ℕ, suc, ◌%◌, min}
 use native.Mathlib.Omega.{arith}
-use lib.Dec.{ltb}
+use Rattle.std.specs.Prelude.{None, Some}
+use lib.Dec.{eqb, ltb}
 use lib.ListN.{length}
 use Rattle.definitions.specs.Lists.{all}
 use Rattle.definitions.specs.Areas.{Words, Areas, Arena, Elem, at, types, constants, overrides, globals, expressions, numbered, word, width, pool, size}
@@ -21,9 +22,10 @@ use Rattle.rules.specs.declared.Bounds.{Bounds}
 use Rattle.rules.specs.declared.Run.{Run}
 use Rattle.rules.specs.declared.Rule.{Rule}
 use Rattle.rules.specs.declared.Rule.TheVariants.{Shaped, Held, Ordered}
-use Rattle.rules.specs.Rules.{held_by, within, asked, leading}
+use Rattle.rules.specs.Rules.{held_by, bounded, within, asked, leading}
 use Rattle.rules.proofs.Laws.{held_by_lem, shaped-by, ordered-list, leading-dep}
-use Rattle.faults.specs.Checking.{Measured, bounds_at, most}
+use Rattle.faults.specs.Measured.{Measured}
+use Rattle.faults.specs.Checking.{bounds_at, most}
 use Rattle.faults.proofs.Arenas.{room_fits}
 use Rattle.faults.proofs.Tests.{inside-by}
 
@@ -93,6 +95,11 @@ module _ (p : Elem → Bool) (q : Areas) (a : Arena) (i : ℕ) (own : (w : ℕ) 
   all_named [] ws = all-run ws
   all_named (x ∷ xs) ws = all_more p (x ∷ behind q x) (with_behind q xs) (with_behind q (xs ++ map (at a) ws)) _ (all_named xs ws)
 
+-- below a bound that stands unless every one may be
+bounded-unless : (b : Bool) (n u : ℕ) → bounded (cond b None (Some n)) u ≡ b || ltb u n
+bounded-unless true n u = refl
+bounded-unless false n u = refl
+
 module _ (s : Areas) (i : ℕ) where
   -- number 7, by bounds within which lies what the record comes later than
   ordered-by : (a : Arena) (b : Bounds) → ((y : Elem) → within b y ≡ later s (at a i) y) → ((w : ℕ) → within b (at a w) ≡ ltb w i) → ((w : ℕ) → behind s (at a w) ≡ [])
@@ -122,7 +129,7 @@ module _ (s : Areas) (i : ℕ) where
   ordered-expression whole before n e q = ordered-by expressions (bounds_at 4 i before n) go (λ w. refl) (λ w. refl)
     where
       go : (y : Elem) → within (bounds_at 4 i before n) y ≡ later s (at expressions i) y
-      go (at types u) = rw (e, q) (sym (leading-dep s whole i u))
+      go (at types u) = bounded-unless (eqb before n) before u ∙ rw (e, q) (sym (leading-dep s whole i u))
       go (at constants u) = refl
       go (at overrides u) = refl
       go (at globals u) = refl

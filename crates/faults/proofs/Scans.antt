@@ -2,12 +2,11 @@
 -- Assumes nothing.
 use mathlib.Core.Path.{◌≡◌, refl, sym, ap, ◌∙◌}
 use mathlib.Core.Bool.{Bool, true, false, cond}
-use mathlib.Core.List.{List, [], ◌∷◌, map}
+use mathlib.Core.List.{List, [], ◌∷◌}
 use Prim.Native.Nat.{ℕ, zero, suc, ◌+◌, ◌-◌, ◌≤◌, ◌<◌}
-use native.Mathlib.Nat.{le_refl, add-zero, add-suc, suc-add}
+use native.Mathlib.Nat.{le_refl}
 use native.Mathlib.Numerals.{add-one}
 use native.Mathlib.Omega.{arith}
-use lib.ListN.{length, get_or}
 use Rattle.definitions.specs.Refusals.{Verdict, accepted, refused, first_of, scan}
 use Rattle.faults.specs.Checking.{in_turn}
 
@@ -46,14 +45,16 @@ all-accepted ok bad i (suc n) f = rw (f i (le_refl i) (omega arith)) (all-accept
 
 -- ---- verdicts in turn
 
+-- one alone decides
+pub one : (w : Verdict) → first_of (w ∷ []) ≡ w
+unfolding first_of
+one accepted = refl
+one (refused n a h) = refl
+
 -- a verdict that accepts leaves it to the next
 pub first_on : {v : Verdict} (w : Verdict) → v ≡ accepted → first_of (v ∷ w ∷ []) ≡ w
 unfolding first_of
 first_on w e = rw e (one w)
-  where
-    one : (w : Verdict) → first_of (w ∷ []) ≡ w
-    one accepted = refl
-    one (refused n a h) = refl
 
 -- one that refuses is the answer
 pub first-stop : {v : Verdict} (w : Verdict) {n a h : ℕ} → v ≡ refused n a h → first_of (v ∷ w ∷ []) ≡ refused n a h
@@ -99,11 +100,3 @@ pub last : (v : Verdict) {w : Verdict} → accepted ≡ w → v ≡ first_of (v 
 unfolding first_of
 last accepted e = e ∙ sym (first_on _ refl)
 last (refused n a h) e = refl
-
--- those of a list, where place i + j has that of its number j
-pub list-turn : (f h : ℕ → Verdict) (i : ℕ) (l : List ℕ) → ((j : ℕ) → h (i + j) ≡ f (get_or l j 0)) → first_of (map f l) ≡ in_turn h i (length l)
-unfolding in_turn
-list-turn f h i [] e = none
-list-turn f h i (n ∷ l) e =
-    also (f n) (map f l) (list-turn f h (suc i) l (λ j. ap h (suc-add i j ∙ sym (add-suc i j)) ∙ e (suc j)))
-    ∙ ap (λ v. first_of (v ∷ in_turn h (suc i) (length l) ∷ [])) (sym (e 0) ∙ ap h (add-zero i))

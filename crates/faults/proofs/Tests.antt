@@ -19,11 +19,13 @@ use Rattle.arena.specs.Sizes.{sizes_of, size_in}
 use Rattle.arena.specs.declared.sizes.Sizes.{Sizes}
 use Rattle.rules.specs.Rules.{held_by}
 use Rattle.rules.proofs.Laws.{held_by_lem}
-use Rattle.faults.specs.Checking.{ok4, ok6, ok_at, owner_of, looks_at, places_in}
+use Rattle.faults.specs.declared.places.Number.{Number}
+use Rattle.faults.specs.declared.places.Number.TheVariants.{Shaped, Scoped, Held, Ordered}
+use Rattle.faults.specs.Checking.{by_places, ok4, ok6, ok_at, owner_of, looks_at, places_in}
 
 -- ---- where a number looks
 
--- number 5 looks at expressions, 7 at types and expressions, the others at every arena
+-- number 5 looks at expressions, 7 at types and expressions
 pub looks-five : (n a : ℕ) → n ≡ 5 → eqb a 4 ≡ looks_at n a
 unfolding looks_at
 looks-five n a e = rw e
@@ -32,9 +34,12 @@ pub looks-seven : (n a : ℕ) → n ≡ 7 → (eqb a 0 || eqb a 4) ≡ looks_at 
 unfolding looks_at
 looks-seven n a e = rw e
 
-pub looks-any : (n a : ℕ) → (n ≡ 5 → ⊥) → (n ≡ 7 → ⊥) → true ≡ looks_at n a
-unfolding looks_at
-looks-any n a p q = rw (ne_eqb n 5 p, ne_eqb n 7 q)
+-- which number is 4
+pub four-is : (n : Number) → by_places n ≡ 4 → n ≡ Shaped
+four-is Shaped e = refl
+four-is Scoped e = absurd (omega (arith, e))
+four-is Held e = absurd (omega (arith, e))
+four-is Ordered e = absurd (omega (arith, e))
 
 -- so that number 7 looks at these
 pub seven-looks : (n a : ℕ) → n ≡ 7 → looks_at n a ≡ true → (a ≡ 0) ⊎ (a ≡ 4)

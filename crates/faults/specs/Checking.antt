@@ -1,6 +1,6 @@
 -- What the contracts of this crate cite beside the definitions of document 01: areas and places under each number.
 -- Assumes nothing.
-use Rattle.std.specs.Prelude.{◌≡◌, Bool, true, false, ◌&&◌, ◌||◌, cond, List, [], ◌∷◌, ℕ, zero, suc, ◌%◌, ◌≤◌, ◌<◌, min, length, get_or, eqb, ltb, leb}
+use Rattle.std.specs.Prelude.{◌≡◌, Bool, true, false, ◌&&◌, ◌||◌, cond, ⊤, None, Some, Result, Ok, Err, List, [], ◌∷◌, ℕ, zero, suc, ◌%◌, ◌≤◌, ◌<◌, min, length, get_or, eqb, ltb, leb}
 use Rattle.definitions.specs.Areas as areas
 use Rattle.definitions.specs.Areas.{N, Areas, types, expressions, numbered, size, pool}
 use Rattle.definitions.specs.Areas.{length_of, records_of, width, widths, limits, mention_word}
@@ -8,8 +8,11 @@ use Rattle.definitions.specs.Order.{well_ordered}
 use Rattle.definitions.specs.Roots.{mention}
 use Rattle.definitions.specs.Refusals.{accepted, refused, first_of, scan, runs_before, shaped_at, held_at, inside, of_module}
 use Rattle.definitions.specs.Refusals as R
-use Rattle.faults.specs.declared.Verdict.{Verdict}
-use Rattle.faults.specs.declared.Verdict.TheVariants.{Accepted, Refused}
+use Rattle.faults.specs.declared.Fault.{Fault}
+use Rattle.faults.specs.declared.areas.Number.{Number}
+use Rattle.faults.specs.declared.areas.Number.TheVariants.{Whole, Few, Mapped}
+use Rattle.faults.specs.declared.places.Number as places
+use Rattle.faults.specs.declared.places.Number.TheVariants.{Shaped, Scoped, Held, Ordered}
 use Rattle.faults.specs.declared.places.Carried.{Carried}
 use Rattle.rules.specs.declared.Bounds.{Bounds}
 use Rattle.rules.specs.declared.Limits.{Limits}
@@ -19,14 +22,27 @@ use Rattle.arena.specs.declared.sizes.Sizes.{Sizes}
 use Rattle.rules.specs.Rules.{leading}
 
 -- the number and the values of each case of the answer
-abbrev pub report_of : Verdict → R.Report
-report_of Accepted = record { passed = true; number = 0; area = 0; record_number = 0 }
-report_of (Refused f) = record { passed = false; number = f.number; area = f.area; record_number = f.record }
+abbrev pub report_of : Result ⊤ Fault → R.Report
+report_of (Ok u) = record { passed = true; number = 0; area = 0; record_number = 0 }
+report_of (Err f) = record { passed = false; number = f.number; area = f.area; record_number = f.record }
 
 -- the verdict of document 01 that it is
-abbrev pub verdict_of : Verdict → R.Verdict
-verdict_of Accepted = accepted
-verdict_of (Refused f) = refused f.number f.area f.record
+abbrev pub verdict_of : Result ⊤ Fault → R.Verdict
+verdict_of (Ok u) = accepted
+verdict_of (Err f) = refused f.number f.area f.record
+
+-- the numbers that go by the areas' lengths
+abbrev pub by_lengths : Number → ℕ
+by_lengths Whole = 1
+by_lengths Few = 2
+by_lengths Mapped = 3
+
+-- and those that go by the places
+abbrev pub by_places : places.Number → ℕ
+by_places Shaped = 4
+by_places Scoped = 5
+by_places Held = 6
+by_places Ordered = 7
 
 -- ---- numbers 1 to 3, by the areas' lengths
 
@@ -90,10 +106,8 @@ scan_area s n a = scan (ok_at s n a) (refused n a) 0 (places_at s n a)
 unfoldable pub bounds_at : ℕ → ℕ → ℕ → ℕ → Bounds
 bounds_at area i before n =
     record {
-      types = cond (eqb area 0) i before;
-      every_type = cond (eqb area 0) false (eqb before n);
-      expressions = cond (eqb area 0) 0 i;
-      every_expression = eqb area 0;
+      types = cond (eqb area 0) (Some i) (cond (eqb before n) None (Some before));
+      expressions = cond (eqb area 0) None (Some i);
     }
 
 -- ---- numbers 4 to 7 at once
@@ -136,10 +150,3 @@ carried_at s n a i =
 unfoldable pub carried_to : Areas → ℕ → ℕ → ℕ → Carried
 carried_to s n a zero = record { sum = 0; types = 0 }
 carried_to s n a (suc i) = carried_at s n a i
-
--- ---- what numbers 1 and 2 leave
-
--- whole types, and in no area as many records as N
-pub record Measured (s : Areas) : Type 0 where
-  pub whole : length s.types % width types ≡ 0
-  pub few : (a : ℕ) → a < 8 → records_of s a < N

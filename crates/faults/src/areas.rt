@@ -2,51 +2,68 @@
 ghost use Rattle.std.specs.Prelude.{◌≡◌, ◌<◌};
 ghost use Rattle.definitions.specs.Refusals.{scan_areas};
 ghost use Rattle.arena.specs.Lent.{areas_in};
-ghost use Rattle.faults.specs.Checking.{area_ok, areas_at, verdict_of};
+ghost use Rattle.faults.specs.Checking.{area_ok, areas_at, by_lengths, verdict_of};
 
-use crate::{Fault, Verdict};
+use crate::Fault;
 use arena::{AREAS, ARENAS, Module};
 
-// How many areas the number looks at: only arenas have maps.
-fn areas_at(number: u32) -> usize
-    ensures { result ≡ areas_at number }
-{
-    match number {
-        1 | 2 => AREAS as usize,
-        _ => ARENAS as usize,
+// What the number asks: whole records; no more than the area's limit; a map with room.
+#[derive(Clone, Copy)]
+pub enum Number {
+    Whole,
+    Few,
+    Mapped,
+}
+
+impl Number {
+    fn number(self) -> u32
+        ensures { result ≡ by_lengths self }
+    {
+        match self {
+            Number::Whole => 1,
+            Number::Few => 2,
+            Number::Mapped => 3,
+        }
     }
 }
 
-// Is the area good under the number ? 1: whole records; 2: no more than its limit; 3: a map with room.
-fn fine(number: u32, area: usize, maps: &[usize; ARENAS as usize], m: &Module) -> bool
-    requires { area < areas_at number }
-    ensures { result ≡ area_ok (areas_in m.now) maps.now number area }
+// How many areas the number looks at: only arenas have maps.
+fn areas_at(number: Number) -> usize
+    ensures { result ≡ areas_at (by_lengths number) }
+{
+    match number {
+        Number::Whole | Number::Few => AREAS as usize,
+        Number::Mapped => ARENAS as usize,
+    }
+}
+
+// Is the area good under the number ?
+fn fine(number: Number, area: usize, maps: &[usize; ARENAS as usize], m: &Module) -> bool
+    requires { area < areas_at (by_lengths number) }
+    ensures { result ≡ area_ok (areas_in m.now) maps.now (by_lengths number) area }
 {
     let length = arena::length(m, area);
     let width = arena::width(area);
     match number {
-        1 => length % width == 0,
-        2 => length / width <= arena::limit(area),
-        _ => length / width <= maps[area],
+        Number::Whole => length % width == 0,
+        Number::Few => length / width <= arena::limit(area),
+        Number::Mapped => length / width <= maps[area],
     }
 }
 
 // The first area that is at fault under the number.
-pub fn first(number: u32, maps: &[usize; ARENAS as usize], m: &Module) -> Verdict
-    ensures { verdict_of result ≡ scan_areas number
-        (area_ok (areas_in m.now) maps.now number) (areas_at number) }
+pub fn first(number: Number, maps: &[usize; ARENAS as usize], m: &Module) -> Result<(), Fault>
+    ensures { verdict_of result ≡ scan_areas (by_lengths number)
+        (area_ok (areas_in m.now) maps.now (by_lengths number)) (areas_at (by_lengths number)) }
 {
-    let n = areas_at(number);
-    let mut area = 0;
-    while area < n {
+    for area in 0..areas_at(number) {
         if !fine(number, area, maps, m) {
-            return Verdict::Refused(Fault {
-                number,
+            return Err(Fault {
+                number: number.number(),
                 area: area as u32,
                 record: 0,
             });
         }
-        area += 1;
     }
-    Verdict::Accepted
+    Ok(())
 }

@@ -6,10 +6,10 @@ ghost use Rattle.definitions.specs.Slots.{body};
 ghost use Rattle.definitions.specs.Refusals.{accepted, every};
 ghost use Rattle.slots.specs.Codes.{words_from, span_in, run_in};
 ghost use Rattle.arena.specs.Lent.{areas_in};
-ghost use Rattle.arena.specs.Sizes.{sizes_of};
 ghost use Rattle.rules.specs.Rules.{good_by, leading};
-ghost use Rattle.faults.specs.Checking.{Measured, limits_at, Passed, Used, in_turn, scan_area};
+ghost use Rattle.faults.specs.Checking.{limits_at, Passed, Used, in_turn, scan_area};
 
+use crate::counted::Counted;
 use crate::places;
 use arena::{ARENAS, EXPRESSIONS, Mention, Module, Sizes, TYPES};
 use rules::{Limits, Run};
@@ -78,65 +78,50 @@ fn record_passes(
 }
 
 // Do all records of an arena pass, and do their runs use up its pool ?
-fn arena_passes(area: u32, z: Sizes, m: &Module) -> bool
-    requires area_bound { area < 5 }
-    requires measured { Measured (areas_in m.now) × (z ≡ sizes_of (areas_in m.now)) }
-    ensures { result ≡ true → Passed (areas_in m.now) area × Used (areas_in m.now) (numbered area) }
+fn arena_passes(area: u32, m: &Counted) -> bool
+    requires { area < 5 }
+    ensures { result ≡ true → Passed (areas_in m.now.areas) area × Used (areas_in m.now.areas) (numbered area) }
 {
-    let ws = slots::arena_words(area, m);
-    let pool = slots::arena_pool(area, m);
+    let ws = slots::arena_words(area, &m.areas);
+    let pool = slots::arena_pool(area, &m.areas);
     let width = slots::arena_width(area);
-    let n = places::own_size(area, z);
+    let room = pool.len();
     let mut sum = 0;
     let mut before = 0;
-    let mut i = 0;
-    while i < n {
+    for i in 0..m.size(area) {
         let at = i as usize * width;
         let span = slots::span(area, ws, at);
-        let room = pool.len();
-        before = leads(area, i, before, z.types, m);
-        let l = limits(area, i, before, z, Run { sum, span, room });
-        if !record_passes(l, area, i, ws, at, pool, m) {
+        before = leads(area, i, before, m.sizes.types, &m.areas);
+        let l = limits(area, i, before, m.sizes, Run { sum, span, room });
+        if !record_passes(l, area, i, ws, at, pool, &m.areas) {
             return false;
         }
         sum = places::run_sum(sum, span);
-        i += 1;
     }
-    sum == pool.len()
+    sum == room
 }
 
 // Do all mentions pass ?
-fn mentions_pass(z: Sizes, m: &Module) -> bool
-    requires { Measured (areas_in m.now) × (z ≡ sizes_of (areas_in m.now)) }
-    ensures { result ≡ true → Passed (areas_in m.now) 7 }
+fn mentions_pass(m: &Counted) -> bool
+    ensures { result ≡ true → Passed (areas_in m.now.areas) 7 }
 {
-    let n = z.mentions;
-    let mut i = 0;
-    while i < n {
-        let area = Mention::area(m, i);
-        if ARENAS <= area {
+    for i in 0..m.sizes.mentions {
+        let area = Mention::area(&m.areas, i);
+        if ARENAS <= area || m.size(area) <= Mention::handle(&m.areas, i) {
             return false;
         }
-        if places::own_size(area, z) <= Mention::handle(m, i) {
-            return false;
-        }
-        i += 1;
     }
     true
 }
 
 // Does the module pass ? Then no number from 4 to 7 has a fault.
-pub fn passes(m: &Module) -> bool
-    requires { Measured (areas_in m.now) }
-    ensures { result ≡ true → (n : ℕ) → 4 ≤ n → n < 8 → in_turn (scan_area (areas_in m.now) n) 0 8 ≡ accepted }
+pub fn passes(m: &Counted) -> bool
+    ensures { result ≡ true → (n : ℕ) → 4 ≤ n → n < 8 → in_turn (scan_area (areas_in m.now.areas) n) 0 8 ≡ accepted }
 {
-    let z = Sizes::of(m);
-    let mut area = 0;
-    while area < ARENAS {
-        if !arena_passes(area, z, m) {
+    for area in 0..ARENAS {
+        if !arena_passes(area, m) {
             return false;
         }
-        area += 1;
     }
-    mentions_pass(z, m)
+    mentions_pass(m)
 }

@@ -5,15 +5,15 @@ ghost use Rattle.definitions.specs.References.{run};
 ghost use Rattle.definitions.specs.Order.{well_ordered};
 ghost use Rattle.definitions.specs.Refusals.{runs_before, shaped_at, held_at};
 ghost use Rattle.arena.specs.Lent.{areas_in};
-ghost use Rattle.arena.specs.Sizes.{sizes_of, size_in};
 ghost use Rattle.rules.specs.Rules.{leading};
-ghost use Rattle.faults.specs.Checking.{Measured, verdict_of, bounds_at, most, looks_at, ok_at, places_in, places_at};
+ghost use Rattle.faults.specs.Checking.{by_places, verdict_of, bounds_at, most, looks_at, ok_at, places_in, places_at};
 ghost use Rattle.faults.specs.Checking.{carried_at, carried_to, in_turn, scan_area};
 
-use crate::{Fault, Verdict};
+use crate::Fault;
+use crate::counted::Counted;
 use arena::{
-    AREAS, ARENAS, COMPONENTS, EXPRESSIONS, Expression, ExpressionHandle, MEMBERS, MENTIONS,
-    Mention, Module, Sizes, TYPES,
+    AREAS, ARENAS, COMPONENTS, EXPRESSIONS, Expression, ExpressionHandle, MEMBERS, Mention, Module,
+    TYPES,
 };
 use rules::{Bounds, Rule, Run};
 
@@ -22,54 +22,59 @@ const GLOBAL_VARIABLE: u32 = 13;
 
 const CALL_RESULT: u32 = 27;
 
-// Where the nested loops were left.
-#[derive(Clone, Copy)]
-enum Place {
-    At(u32, u32),
-    Nowhere,
+// What the number asks: the shape of kinds, forms and runs; kinds of module scope; handles that are there; good order.
+#[derive(Clone, Copy, PartialEq, Eq)]
+pub enum Number {
+    Shaped,
+    Scoped,
+    Held,
+    Ordered,
 }
 
-// How many records the arena of an area has.
-pub fn own_size(area: u32, z: Sizes) -> u32
-    ensures { result ≡ size_in z (numbered area) }
-{
-    rules::size_in(z, slots::arena_at(area))
+impl Number {
+    fn number(self) -> u32
+        ensures { result ≡ by_places self }
+    {
+        match self {
+            Number::Shaped => 4,
+            Number::Scoped => 5,
+            Number::Held => 6,
+            Number::Ordered => 7,
+        }
+    }
 }
 
-// Does the number look at the records of the arena ? 5 at expressions alone, 7 at types and expressions.
-fn looks_at(number: u32, area: u32) -> bool
-    ensures { result ≡ looks_at number area }
+// Does the number look at the records of the arena ? Scoped at expressions alone, Ordered at types and expressions.
+fn looks_at(number: Number, area: u32) -> bool
+    ensures { result ≡ looks_at (by_places number) area }
 {
     match number {
-        5 => area == EXPRESSIONS,
-        7 => area == TYPES || area == EXPRESSIONS,
-        _ => true,
+        Number::Scoped => area == EXPRESSIONS,
+        Number::Ordered => area == TYPES || area == EXPRESSIONS,
+        Number::Shaped | Number::Held => true,
     }
 }
 
 // How many places an area has under a number: its records, a pool one; 0 where the number doesn't look.
-fn places(number: u32, area: u32, z: Sizes) -> u32
-    ensures { result ≡ places_in z number area }
+fn places(number: Number, area: u32, m: &Counted) -> u32
+    ensures { result ≡ places_at (areas_in m.now.areas) (by_places number) area }
 {
-    if area < ARENAS {
-        if looks_at(number, area) {
-            return own_size(area, z);
+    match area {
+        TYPES..=EXPRESSIONS => {
+            if looks_at(number, area) {
+                return m.size(area);
+            }
+            0
         }
-        return 0;
+        MEMBERS | COMPONENTS => u32::from(number == Number::Shaped),
+        _ => match number {
+            Number::Shaped | Number::Held => m.sizes.mentions,
+            Number::Scoped | Number::Ordered => 0,
+        },
     }
-    if area < MENTIONS {
-        if number == 4 {
-            return 1;
-        }
-        return 0;
-    }
-    if number == 4 || number == 6 {
-        return z.mentions;
-    }
-    0
 }
 
-// What is carried from record to record: under number 4 the counts before it, under 7 the types with dep below it.
+// What is carried from record to record: under Shaped the counts before it, under Ordered the types with dep below it.
 #[derive(Clone, Copy)]
 pub struct Carried {
     pub sum: usize,
@@ -84,22 +89,17 @@ pub fn run_sum(a: usize, b: u32) -> usize
     requires { a ≤ most }
     ensures { result ≡ min (a + b) most }
 {
-    let sum = a + b as usize;
-    if sum < MOST {
-        return sum;
-    }
-    MOST
+    (a + b as usize).min(MOST)
 }
 
 // What is carried to record i of an area from the record before it.
-fn carry(number: u32, area: u32, i: u32, before: Carried, z: Sizes, m: &Module) -> Carried
-    requires z_value { z ≡ sizes_of (areas_in m.now) }
-    requires before_value { before ≡ carried_to (areas_in m.now) number area i }
-    ensures { result ≡ carried_at (areas_in m.now) number area i }
+fn carry(number: Number, area: u32, i: u32, before: Carried, m: &Counted) -> Carried
+    requires { before ≡ carried_to (areas_in m.now.areas) (by_places number) area i }
+    ensures { result ≡ carried_at (areas_in m.now.areas) (by_places number) area i }
 {
     let nothing = Carried { sum: 0, types: 0 };
     match number {
-        4 => {
+        Number::Shaped => {
             if ARENAS <= area || i == 0 {
                 return nothing;
             }
@@ -107,37 +107,36 @@ fn carry(number: u32, area: u32, i: u32, before: Carried, z: Sizes, m: &Module) 
             Carried {
                 sum: run_sum(
                     before.sum,
-                    slots::span(area, slots::arena_words(area, m), at),
+                    slots::span(area, slots::arena_words(area, &m.areas), at),
                 ),
                 types: 0,
             }
         }
-        7 => {
+        Number::Ordered => {
             if area != EXPRESSIONS {
                 return nothing;
             }
             Carried {
                 sum: 0,
-                types: rules::prefix(before.types, z.types, i, m),
+                types: rules::prefix(before.types, m.sizes.types, i, &m.areas),
             }
         }
-        _ => nothing,
+        Number::Scoped | Number::Held => nothing,
     }
 }
 
-// Number 4: is record i of an arena shaped as its kind asks ?
-fn shaped_at(area: u32, i: u32, sum: usize, m: &Module) -> bool
-    requires measured { Measured (areas_in m.now) }
-    requires sum_value { sum ≡ min (runs_before (areas_in m.now) (numbered area) i) most }
-    ensures { result ≡ shaped_at (areas_in m.now) (numbered area) i }
+// Is record i of an arena shaped as its kind asks ?
+fn shaped_at(area: u32, i: u32, sum: usize, m: &Counted) -> bool
+    requires { sum ≡ min (runs_before (areas_in m.now.areas) (numbered area) i) most }
+    ensures { result ≡ shaped_at (areas_in m.now.areas) (numbered area) i }
 {
-    let ws = slots::arena_words(area, m);
+    let ws = slots::arena_words(area, &m.areas);
     let run = Run {
         sum,
         span: slots::span(area, ws, i as usize * slots::arena_width(area)),
-        room: slots::arena_pool(area, m).len(),
+        room: slots::arena_pool(area, &m.areas).len(),
     };
-    rules::record_keeps(Rule::Shaped(run), area, i, m)
+    rules::record_keeps(Rule::Shaped(run), area, i, &m.areas)
 }
 
 // The run of record i of an arena.
@@ -152,129 +151,111 @@ fn run_at<'a>(area: u32, i: u32, m: &Module<'a>) -> &'a [u32]
     )
 }
 
-// Number 6: are all handles of record i of an arena there ?
-fn held_at(area: u32, i: u32, z: Sizes, m: &Module) -> bool
-    requires { z ≡ sizes_of (areas_in m.now) }
-    ensures { result ≡ held_at (areas_in m.now) (numbered area) i }
+// Are all handles of record i of an arena there ?
+fn held_at(area: u32, i: u32, m: &Counted) -> bool
+    ensures { result ≡ held_at (areas_in m.now.areas) (numbered area) i }
 {
-    if !rules::record_keeps(Rule::Held(z), area, i, m) {
+    if !rules::record_keeps(Rule::Held(m.sizes), area, i, &m.areas) {
         return false;
     }
-    rules::all_below(run_at(area, i, m), own_size(area, z))
+    rules::all_below(run_at(area, i, &m.areas), m.size(area))
 }
 
 // Below which type and expression what a type or an expression refers to must lie.
 // `before` types have dep below the expression.
+#[tactic(auto, unfolding(crate::specs::Checking::bounds_at))]
 fn bounds(area: u32, i: u32, before: u32, types: u32) -> Bounds
     ensures { result ≡ bounds_at area i before types }
 {
     if area == TYPES {
         return Bounds {
-            types: i,
-            every_type: false,
-            expressions: 0,
-            every_expression: true,
+            types: Some(i),
+            expressions: None,
         };
     }
     Bounds {
-        types: before,
-        every_type: before == types,
-        expressions: i,
-        every_expression: false,
+        types: (before != types).then_some(before),
+        expressions: Some(i),
     }
 }
 
-// Number 7: is type or expression i well ordered ?
-fn ordered_at(area: u32, i: u32, before: u32, z: Sizes, m: &Module) -> bool
-    requires measured { Measured (areas_in m.now) × (z ≡ sizes_of (areas_in m.now)) }
-    requires area_value { area ≡ 0 ⊎ ((area ≡ 4) × (before ≡ leading (areas_in m.now) i 0 z.types)) }
-    ensures { result ≡ well_ordered (areas_in m.now) (numbered area) i }
+// Is type or expression i well ordered ?
+fn ordered_at(area: u32, i: u32, before: u32, m: &Counted) -> bool
+    requires { area ≡ 0 ⊎ ((area ≡ 4) × (before ≡ leading (areas_in m.now.areas) i 0 m.now.sizes.types)) }
+    ensures { result ≡ well_ordered (areas_in m.now.areas) (numbered area) i }
 {
-    let b = bounds(area, i, before, z.types);
-    if !rules::record_keeps(Rule::Ordered(b), area, i, m) {
+    let b = bounds(area, i, before, m.sizes.types);
+    if !rules::record_keeps(Rule::Ordered(b), area, i, &m.areas) {
         return false;
     }
-    rules::all_below(run_at(area, i, m), i)
+    rules::all_below(run_at(area, i, &m.areas), i)
 }
 
 // Is record i of an arena good under a number ?
-fn record_fine(number: u32, area: u32, i: u32, carried: Carried, z: Sizes, m: &Module) -> bool
-    requires le_number { (4 ≤ number) × (number < 8) }
-    requires measured { Measured (areas_in m.now) × (z ≡ sizes_of (areas_in m.now)) }
-    requires carried_value { carried ≡ carried_at (areas_in m.now) number area i }
-    requires area_bound { (area < 5) × (looks_at number area ≡ true) }
-    ensures { result ≡ ok_at (areas_in m.now) number area i }
+fn record_fine(number: Number, area: u32, i: u32, carried: Carried, m: &Counted) -> bool
+    requires carried_value { carried ≡ carried_at (areas_in m.now.areas) (by_places number) area i }
+    requires area_bound { (area < 5) × (looks_at (by_places number) area ≡ true) }
+    ensures { result ≡ ok_at (areas_in m.now.areas) (by_places number) area i }
 {
     match number {
-        4 => shaped_at(area, i, carried.sum, m),
-        5 => {
-            let kind = Expression::kind(m, ExpressionHandle(i));
+        Number::Shaped => shaped_at(area, i, carried.sum, m),
+        Number::Scoped => {
+            let kind = Expression::kind(&m.areas, ExpressionHandle(i));
             kind != GLOBAL_VARIABLE && kind != CALL_RESULT
         }
-        6 => held_at(area, i, z, m),
-        _ => ordered_at(area, i, carried.types, z, m),
+        Number::Held => held_at(area, i, m),
+        Number::Ordered => ordered_at(area, i, carried.types, m),
     }
 }
 
 // Is mention i good under a number ?
-fn mention_fine(number: u32, i: u32, z: Sizes, m: &Module) -> bool
-    requires z_value { z ≡ sizes_of (areas_in m.now) }
-    requires number_value { number ≡ 4 ⊎ number ≡ 6 }
-    ensures { result ≡ ok_at (areas_in m.now) number 7 i }
+fn mention_fine(number: Number, i: u32, m: &Counted) -> bool
+    requires { (by_places number ≡ 4) ⊎ (by_places number ≡ 6) }
+    ensures { result ≡ ok_at (areas_in m.now.areas) (by_places number) 7 i }
 {
-    let area = Mention::area(m, i);
-    if number == 4 {
-        return area < ARENAS;
+    let area = Mention::area(&m.areas, i);
+    match number {
+        Number::Shaped => area < ARENAS,
+        _ => Mention::handle(&m.areas, i) < m.size(area),
     }
-    Mention::handle(m, i) < own_size(area, z)
 }
 
 // Is a place good under a number ?
-fn fine(number: u32, area: u32, i: u32, carried: Carried, z: Sizes, m: &Module) -> bool
-    requires le_number { (4 ≤ number) × (number < 8) }
-    requires measured { Measured (areas_in m.now) × (z ≡ sizes_of (areas_in m.now)) }
-    requires carried_value { carried ≡ carried_at (areas_in m.now) number area i }
-    requires area_bound { (area < 8) × (i < places_at (areas_in m.now) number area) }
-    ensures { result ≡ ok_at (areas_in m.now) number area i }
+fn fine(number: Number, area: u32, i: u32, carried: Carried, m: &Counted) -> bool
+    requires carried_value { carried ≡ carried_at (areas_in m.now.areas) (by_places number) area i }
+    requires area_bound { (area < 8) × (i < places_at (areas_in m.now.areas) (by_places number) area) }
+    ensures { result ≡ ok_at (areas_in m.now.areas) (by_places number) area i }
 {
     match area {
-        TYPES..=EXPRESSIONS => record_fine(number, area, i, carried, z, m),
-        MEMBERS => rules::pool_used(TYPES, z.types, m),
-        COMPONENTS => rules::pool_used(EXPRESSIONS, z.expressions, m),
-        _ => mention_fine(number, i, z, m),
+        TYPES..=EXPRESSIONS => record_fine(number, area, i, carried, m),
+        MEMBERS => rules::pool_used(TYPES, m.sizes.types, &m.areas),
+        COMPONENTS => rules::pool_used(EXPRESSIONS, m.sizes.expressions, &m.areas),
+        _ => mention_fine(number, i, m),
     }
 }
 
 // The first place that is at fault under a number.
-pub fn first(number: u32, m: &Module) -> Verdict
-    requires le_number { (4 ≤ number) × (number < 8) }
-    requires measured { Measured (areas_in m.now) }
-    ensures { verdict_of result ≡ in_turn (scan_area (areas_in m.now) number) 0 8 }
+pub fn first(number: Number, m: &Counted) -> Result<(), Fault>
+    ensures { verdict_of result ≡ in_turn (scan_area (areas_in m.now.areas) (by_places number)) 0 8 }
 {
-    let z = Sizes::of(m);
-    let mut area = 0;
-    let place = 'areas: loop {
-        if AREAS <= area {
-            break 'areas Place::Nowhere;
-        }
-        let n = places(number, area, z);
-        let mut carried = Carried { sum: 0, types: 0 };
-        let mut i = 0;
-        while i < n {
-            carried = carry(number, area, i, carried, z, m);
-            if !fine(number, area, i, carried, z, m) {
-                break 'areas Place::At(area, i);
+    let place = 'areas: {
+        for area in 0..AREAS {
+            let mut carried = Carried { sum: 0, types: 0 };
+            for i in 0..places(number, area, m) {
+                carried = carry(number, area, i, carried, m);
+                if !fine(number, area, i, carried, m) {
+                    break 'areas Some((area, i));
+                }
             }
-            i += 1;
         }
-        area += 1;
+        None
     };
     match place {
-        Place::At(area, record) => Verdict::Refused(Fault {
-            number,
+        Some((area, record)) => Err(Fault {
+            number: number.number(),
             area,
             record,
         }),
-        Place::Nowhere => Verdict::Accepted,
+        None => Ok(()),
     }
 }

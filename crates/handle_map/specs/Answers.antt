@@ -1,19 +1,26 @@
--- Document 01, "Refusal numbers": the number and the values of each case of an answer that is an enum
+-- Document 01, "Refusal numbers": the number and the values of each case of an answer
 -- Assumes nothing.
+use Rattle.std.specs.Prelude.{Bool, not, ℕ, eqb, Result, Ok, Err}
 use Rattle.definitions.specs.Areas.{N}
 use Rattle.definitions.specs.MapEntries as Entries
-use Rattle.handle_map.specs.declared.Adjusted.{Adjusted}
-use Rattle.handle_map.specs.declared.Adjusted.TheVariants.{To, PastEnd, Dropped}
-use Rattle.handle_map.specs.declared.Ranged.{Ranged}
-use Rattle.handle_map.specs.declared.Ranged.TheVariants.{Span, Refused}
+use Rattle.handle_map.specs.declared.NoHandle.{NoHandle}
+use Rattle.handle_map.specs.declared.NoHandle.TheVariants.{PastEnd, Dropped}
 
--- "Adjust: 8 past the end, 9 on N"; "A refused adjust answers N"
-abbrev pub adjusted_of : Adjusted → Entries.Adjusted
-adjusted_of (To h) = record { number = 0; handle = h }
-adjusted_of PastEnd = record { number = 8; handle = N }
-adjusted_of Dropped = record { number = 9; handle = N }
+-- "8 past the end, 9 on N"
+abbrev pub number_of : NoHandle → ℕ
+number_of PastEnd = 8
+number_of Dropped = 9
+
+-- "A refused adjust answers N"
+abbrev pub adjusted_of : Result ℕ NoHandle → Entries.Adjusted
+adjusted_of (Ok h) = record { number = 0; handle = h }
+adjusted_of (Err e) = record { number = number_of e; handle = N }
 
 -- "a refused range N..N"
-abbrev pub ranged_of : Ranged → Entries.Ranged
-ranged_of (Span a b) = record { number = 0; start = a; end = b }
-ranged_of Refused = record { number = 8; start = N; end = N }
+abbrev pub ranged_of : Result (ℕ × ℕ) NoHandle → Entries.Ranged
+ranged_of (Ok p) = record { number = 0; start = p.0; end = p.1 }
+ranged_of (Err e) = record { number = number_of e; start = N; end = N }
+
+-- a word of a map that is a handle
+abbrev pub is_live : ℕ → Bool
+is_live w = not (eqb w N)

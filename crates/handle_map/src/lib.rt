@@ -2,39 +2,54 @@
 // reader that holds the map it was lent.
 #![tactic(auto)]
 
-ghost use Rattle.std.specs.Prelude.{◌≡◌, cond, min, length, get_or, eqb};
+ghost use Rattle.std.specs.Prelude.{◌≡◌, cond, min, length, eqb, reverse, Ok};
+ghost use Rattle.std.specs.List.{find};
 ghost use Rattle.definitions.specs.Areas.{N};
 ghost use Rattle.definitions.specs.Numbering.{rank};
-ghost use Rattle.definitions.specs.MapEntries.{lookup, adjust, live, last, spanned, range};
-ghost use Rattle.handle_map.specs.Answers.{adjusted_of, ranged_of};
+ghost use Rattle.definitions.specs.MapEntries.{lookup, adjust, live, spanned, range};
+ghost use Rattle.handle_map.specs.Answers.{number_of, adjusted_of, ranged_of, is_live};
 ghost use Rattle.handle_map.specs.FromSet.{in_set, mapped};
 
 use arena::{N, handle_set};
+use std::error::Error;
+use std::fmt;
 
-// What an adjust answers: the new handle, or why there is none.
-#[derive(Clone, Copy)]
-pub enum Adjusted {
-    To(u32),
+// Why there is no new handle.
+#[derive(Clone, Copy, Debug, PartialEq, Eq)]
+pub enum NoHandle {
     PastEnd,
     Dropped,
 }
 
-// What a range answers: the new start and the new end, which is past the last handle.
-#[derive(Clone, Copy)]
-pub enum Ranged {
-    Span(u32, u32),
-    Refused,
+impl NoHandle {
+    // Document 01's number.
+    pub fn number(self) -> u32
+        ensures { result ≡ number_of self }
+    {
+        match self {
+            NoHandle::PastEnd => 8,
+            NoHandle::Dropped => 9,
+        }
+    }
 }
+
+impl fmt::Display for NoHandle {
+    fn fmt<W: fmt::Write>(&self, f: &mut fmt::Formatter<W>) -> fmt::Result {
+        f.write_str(match self {
+            NoHandle::PastEnd => "past the map's end",
+            NoHandle::Dropped => "dropped",
+        })
+    }
+}
+
+impl Error for NoHandle {}
 
 // The map's word of a record: N where it is dropped, else the next handle.
 // It compiles to a choice of two values, with no branch.
 fn chosen(one: u32, next: u32) -> u32
     ensures { result ≡ cond (eqb one 0) N next }
 {
-    if one == 0 {
-        return N;
-    }
-    next
+    if one == 0 { N } else { next }
 }
 
 // As the Rust's `HandleMap::from_set`: the map of an arena's n records from their marks, whose bits begin at the base:
@@ -45,98 +60,72 @@ pub fn from_set(marks: &[u64], base: u32, n: u32, map: &mut [u32]) -> u32
         × (map.new ≡ mapped (in_set marks.now base) (min n (length map.old)) map.old) }
 {
     let mut next: u32 = 0;
-    let mut h: u32 = 0;
-    while h < n && (h as usize) < map.len() {
-        let one = handle_set::bit_at(marks, base as usize + h as usize);
-        map[h as usize] = chosen(one, next);
+    let n = map.len().min(n as usize);
+    for (h, word) in map[..n].iter_mut().enumerate() {
+        let one = handle_set::bit_at(marks, base as usize + h);
+        *word = chosen(one, next);
         next += one;
-        h += 1;
     }
     next
 }
 
 // As the Rust's `HandleMap::get`: the new handle, or N where it was dropped or is past the end.
+#[tactic(auto, unfolding(definitions::specs::MapEntries::lookup))]
 pub fn lookup(map: &[u32], handle: u32) -> u32
     ensures { result ≡ lookup map.now handle }
 {
-    let i = handle as usize;
-    if i < map.len() { map[i] } else { N }
+    map.get(handle as usize).copied().unwrap_or(N)
 }
 
 // As `HandleMap::adjust`, which panics where this gives no handle.
-pub fn adjust(map: &[u32], handle: u32) -> Adjusted
+#[tactic(auto, unfolding(definitions::specs::MapEntries::lookup, definitions::specs::MapEntries::adjust))]
+pub fn adjust(map: &[u32], handle: u32) -> Result<u32, NoHandle>
     ensures { adjusted_of result ≡ adjust map.now handle }
 {
-    let i = handle as usize;
-    if i >= map.len() {
-        return Adjusted::PastEnd;
+    match map.get(handle as usize) {
+        None => Err(NoHandle::PastEnd),
+        Some(&N) => Err(NoHandle::Dropped),
+        Some(&new) => Ok(new),
     }
-    let new = map[i];
-    if new == N {
-        return Adjusted::Dropped;
-    }
-    Adjusted::To(new)
 }
 
-// The first live word, from the start on; N where there is none.
-fn first_live(words: &[u32]) -> u32
-    ensures { result ≡ get_or (live words.now) 0 N }
+// The first live word.
+fn first_live(words: &[u32]) -> Option<u32>
+    ensures { result ≡ find is_live words.now }
 {
-    let mut i = 0;
-    while i < words.len() {
-        let first = words[i];
-        if first != N {
-            return first;
-        }
-        i += 1;
-    }
-    N
+    words.iter().copied().find(|&w| w != N)
 }
 
-// The last live word, from the end back; N where there is none.
-fn last_live(words: &[u32]) -> u32
-    ensures { result ≡ last N (live words.now) }
+// The last live word.
+fn last_live(words: &[u32]) -> Option<u32>
+    ensures { result ≡ find is_live (reverse words.now) }
 {
-    let mut i = words.len();
-    while i > 0 {
-        i -= 1;
-        let last = words[i];
-        if last != N {
-            return last;
-        }
-    }
-    N
+    words.iter().rev().copied().find(|&w| w != N)
 }
 
 // From the first live word to the last one plus 1. A live word is below N, so the sum fits.
-fn span(words: &[u32]) -> Ranged
-    ensures { ranged_of result ≡ spanned (live words.now) }
+#[tactic(auto, using(crate::proofs::Live::spans))]
+fn span(words: &[u32]) -> (u32, u32)
+    ensures { ranged_of (Ok result) ≡ spanned (live words.now) }
 {
-    let first = first_live(words);
-    if first == N {
-        return Ranged::Span(0, 0);
+    match (first_live(words), last_live(words)) {
+        (Some(first), Some(last)) => (first, last + 1),
+        _ => (0, 0),
     }
-    let last = last_live(words);
-    let end = last + 1;
-    Ranged::Span(first, end)
 }
 
 // As `HandleMap::adjust_range`: a range shrunk to its live handles. Nothing is tested against the compacted arena.
-pub fn adjust_range(map: &[u32], start: u32, end: u32) -> Ranged
+#[tactic(auto, unfolding(definitions::specs::MapEntries::range))]
+pub fn adjust_range(map: &[u32], start: u32, end: u32) -> Result<(u32, u32), NoHandle>
     ensures { ranged_of result ≡ range map.now start end }
 {
-    let from = start as usize;
-    let to = end as usize;
-    if to > map.len() {
-        return Ranged::Refused;
-    }
-    if from > to {
-        return Ranged::Refused;
-    }
-    span(&map[from..to])
+    let words = map
+        .get(start as usize..end as usize)
+        .ok_or(NoHandle::PastEnd)?;
+    Ok(span(words))
 }
 
-// A map reader. Each method takes it apart and calls the function on the slice that it holds.
+// Document 01's "map reader that holds the map it was lent": each method calls the function on its slice.
 #[derive(Clone, Copy)]
 pub struct HandleMap<'a> {
     pub map: &'a [u32],
@@ -149,33 +138,33 @@ impl<'a> HandleMap<'a> {
         lookup(self.map, handle)
     }
 
-    pub fn adjust(self, handle: u32) -> Adjusted
+    pub fn adjust(self, handle: u32) -> Result<u32, NoHandle>
         ensures { adjusted_of result ≡ adjust self.entry.map.now handle }
     {
         adjust(self.map, handle)
     }
 
-    pub fn adjust_range(self, start: u32, end: u32) -> Ranged
+    pub fn adjust_range(self, start: u32, end: u32) -> Result<(u32, u32), NoHandle>
         ensures { ranged_of result ≡ range self.entry.map.now start end }
     {
         adjust_range(self.map, start, end)
     }
 }
 
-// The reader's methods for a caller that has a slice and holds no reader.
+// The reader's methods for a caller that has a slice and holds no reader; docs/REVIEW.md names all three forms.
 pub fn get_in(words: &[u32], handle: u32) -> u32
     ensures { result ≡ lookup words.now handle }
 {
     HandleMap { map: words }.get(handle)
 }
 
-pub fn adjust_in(words: &[u32], handle: u32) -> Adjusted
+pub fn adjust_in(words: &[u32], handle: u32) -> Result<u32, NoHandle>
     ensures { adjusted_of result ≡ adjust words.now handle }
 {
     HandleMap { map: words }.adjust(handle)
 }
 
-pub fn adjust_range_in(words: &[u32], start: u32, end: u32) -> Ranged
+pub fn adjust_range_in(words: &[u32], start: u32, end: u32) -> Result<(u32, u32), NoHandle>
     ensures { ranged_of result ≡ range words.now start end }
 {
     HandleMap { map: words }.adjust_range(start, end)

@@ -21,8 +21,7 @@ use Rattle.rules.specs.declared.Bounds.{Bounds}
 use Rattle.rules.specs.declared.Rule.{Rule}
 use Rattle.rules.specs.declared.Rule.TheVariants.{Shaped, Held, Ordered}
 use Rattle.rules.specs.Rules.{shaped_by, held_by, within, asked, fit_by, good_by}
-use Rattle.rules.proofs.Arms.{fits}
-use Rattle.rules.proofs.Behind.{of-type, of-expression, of-constant, of-override}
+use Rattle.rules.proofs.Behind.{fits, of-type, of-expression, of-constant, of-override}
 use Rattle.rules.proofs.Every.{tail-kept}
 
 -- a test that follows from another, asked of all words
@@ -90,14 +89,14 @@ module _ (s : Areas) (l : Limits) where
         let y = word s constants w 1 in
         let i = word s constants w 2 in
         let u = and_right (ltb w l.constants) (ltb y l.types && ltb i l.expressions) t in
-        subst T (sym (of-constant b s w).says)
+        subst T (sym (of-constant b s w))
         (both (within b (at types y)) (within b (at expressions i)) (p y (ltb→lt y l.types (and_left (ltb y l.types) (ltb i l.expressions) u)))
         (e i (ltb→lt i l.expressions (and_right (ltb y l.types) (ltb i l.expressions) u))))
     fit-ordered overrides w t =
         let y = word s overrides w 1 in
         let i = word s overrides w 2 in
         let u = and_right (ltb w l.overrides) (ltb y l.types && (eqb i N || ltb i l.expressions)) t in
-        subst T (sym (of-override b s w).says)
+        subst T (sym (of-override b s w))
         (both (within b (at types y)) (eqb i N || within b (at expressions i)) (p y (ltb→lt y l.types (and_left (ltb y l.types) (eqb i N || ltb i l.expressions) u)))
         (either (eqb i N) (ltb i l.expressions) (within b (at expressions i)) (λ v. e i (ltb→lt i l.expressions v))
         (and_right (ltb y l.types) (eqb i N || ltb i l.expressions) u)))

@@ -1,6 +1,6 @@
 -- A test of all words of a record, word by word along its shape.
 -- Assumes nothing.
-use mathlib.Core.Path.{◌≡◌, refl, sym, ap, ap₂, ◌∙◌}
+use mathlib.Core.Path.{◌≡◌, refl, ap, ap₂, ◌∙◌}
 use mathlib.Core.Bool.{Bool, true, ◌&&◌}
 use Prim.Native.Nat.{ℕ, zero, suc, ◌+◌, ◌-◌, ◌/◌, ◌%◌, ◌≤◌, ◌<◌}
 use native.Mathlib.Numerals.{add-one}
@@ -25,24 +25,23 @@ tail-kept s (Held z) w = refl
 tail-kept s (Ordered b) w = refl
 
 -- of a shape that has run out two tests ask the same if they ask the same of unused slots
-pub same-unused : (p q : Slot → ℕ → Bool) (f : ℕ → ℕ) → ((w : ℕ) → p unused w ≡ q unused w) → (n k : ℕ) → every p f k (unpacked 0 n) ≡ every q f k (unpacked 0 n)
+pub same_unused : (p q : Slot → ℕ → Bool) (f : ℕ → ℕ) → ((w : ℕ) → p unused w ≡ q unused w) → (n k : ℕ) → every p f k (unpacked 0 n) ≡ every q f k (unpacked 0 n)
 unfolding every unpacked decoded codes
-same-unused p q f e zero k = refl
-same-unused p q f e (suc n) k = ap₂ ◌&&◌ (e (f k)) (same-unused p q f e n (suc k))
+same_unused p q f e zero k = refl
+same_unused p q f e (suc n) k = ap₂ ◌&&◌ (e (f k)) (same_unused p q f e n (suc k))
 
-module _ (p : Slot → ℕ → Bool) (f : ℕ → ℕ) (rest k n : ℕ) where
-  -- of a word that answers b
-  pub turn : {r b : Bool} {l : Slot} {w : ℕ} → k < n → l ≡ decoded (rest % 16) → w ≡ f k → r ≡ p l w → r ≡ b
-      → b && every p f (k + 1) (unpacked (rest / 16) (n - (k + 1))) ≡ every p f k (unpacked rest (n - k))
+-- a test of the slots of a shape that are left from word k on
+module _ (p : Slot → ℕ → Bool) (f : ℕ → ℕ) (k rest n : ℕ) where
+  pub turn : k < n → every p f k (unpacked rest (n - k)) ≡ (p (decoded (rest % 16)) (f k) && every p f (k + 1) (unpacked (rest / 16) (n - (k + 1))))
   unfolding every unpacked
-  turn h x y e q =
-      let m : n - k ≡ suc (n - (k + 1)) = omega arith in
-      rw (m, ← add-one k) (ap (λ b. b && every p f (k + 1) (unpacked (rest / 16) (n - (k + 1)))) (sym q ∙ e ∙ ap₂ p x y))
+  turn h = let m : n - k ≡ suc (n - (k + 1)) = omega arith in rw (m, ← add-one k)
 
-  -- no named slot is left
-  pub none_left : ((w : ℕ) → p unused w ≡ true) → rest ≡ 0 → true ≡ every p f k (unpacked rest (n - k))
-  none_left u e = sym (ap (λ r. every p f k (unpacked r (n - k))) e ∙ every-none p f u (n - k) k)
-
-  pub done : n ≤ k → true ≡ every p f k (unpacked rest (n - k))
+  pub done : n ≤ k → every p f k (unpacked rest (n - k)) ≡ true
   unfolding every unpacked
   done h = let m : n - k ≡ 0 = omega arith in rw m
+
+  -- no named slot is left
+  pub none_left : rest ≡ 0 → ((w : ℕ) → p unused w ≡ true) → every p f k (unpacked rest (n - k)) ≡ true
+  none_left e u = ap (λ r. every p f k (unpacked r (n - k))) e ∙ every-none p f u (n - k) k
+
+pub ruleset steps = (turn, done, none_left, same_unused)

@@ -1,6 +1,7 @@
 -- The laws that callers cite, and those that several proofs share.
-pub mod Arms
+pub mod Opened
 pub mod Behind
 pub mod Every
+pub mod Steps
 pub mod Laws
 pub mod AtOnce

@@ -1,6 +1,6 @@
 -- What the contracts of this crate cite beside the definitions of document 01: numbers 4, 6 and 7 of one record.
 -- Assumes nothing.
-use Rattle.std.specs.Prelude.{Bool, true, false, ◌&&◌, ◌||◌, cond, ℕ, zero, suc, ◌+◌, eqb, ltb, leb}
+use Rattle.std.specs.Prelude.{Bool, true, false, ◌&&◌, ◌||◌, cond, Option, None, Some, ℕ, zero, suc, ◌+◌, eqb, ltb, leb}
 use Rattle.definitions.specs.Lists.{all}
 use Rattle.definitions.specs.Areas.{N, Areas, Elem, at, word}
 use Rattle.definitions.specs.Areas.{Arena, types, constants, overrides, globals, expressions}
@@ -34,13 +34,18 @@ held_by n (may a) w = cond (eqb w N) true (ltb w (n a))
 held_by n start w = true
 held_by n count w = true
 
+-- is a handle below the bound, where there is one ?
+abbrev pub bounded : Option ℕ → ℕ → Bool
+bounded None h = true
+bounded (Some n) h = ltb h n
+
 -- number 7: `later`, given below which type and which expression an element must lie, if it must
 unfoldable pub within : Bounds → Elem → Bool
-within b (at types u) = b.every_type || ltb u b.types
+within b (at types u) = bounded b.types u
 within b (at constants h) = true
 within b (at overrides h) = true
 within b (at globals h) = true
-within b (at expressions i) = b.every_expression || ltb i b.expressions
+within b (at expressions i) = bounded b.expressions i
 
 -- what a rule asks of a word of the module
 unfoldable pub asked : Areas → Rule → Slot → ℕ → Bool

@@ -1,7 +1,7 @@
 // One record under numbers 4, 6 and 7: what is asked of its words and of its run.
 #![tactic(auto)]
 
-ghost use Rattle.std.specs.Prelude.{◌≡◌, true, false, ◌&&◌, ◌||◌, [], ◌∷◌, ℕ, ◌-◌, eqb, ltb, length};
+ghost use Rattle.std.specs.Prelude.{◌≡◌, true, false, ◌&&◌, ◌||◌, [], ◌∷◌, ℕ, ◌+◌, ◌-◌, eqb, ltb, leb, length};
 ghost use Rattle.definitions.specs.Areas.{N, Areas, numbered, constants, overrides, word, at, types, expressions, pool};
 ghost use Rattle.definitions.specs.Lists.{all};
 ghost use Rattle.definitions.specs.Slots.{unused, body, layout};
@@ -28,13 +28,11 @@ pub struct Run {
     pub room: usize,
 }
 
-// Below which type and which expression an element that is referred to must lie, unless every one may be.
+// Below which type and which expression an element that is referred to must lie; None: every one may be.
 #[derive(Clone, Copy)]
 pub struct Bounds {
-    pub types: u32,
-    pub every_type: bool,
-    pub expressions: u32,
-    pub every_expression: bool,
+    pub types: Option<u32>,
+    pub expressions: Option<u32>,
 }
 
 // What is enough for numbers 4 to 7 at once: below which type and expression all lies that a word names or that stands
@@ -48,7 +46,7 @@ pub struct Limits {
     pub run: Run,
 }
 
-// What is asked of a record's words: under number 4, 6, 7.
+// What is asked of a record's words: under number 4, 6, 7. No closure: the contract of `record_keeps` names it.
 #[derive(Clone, Copy)]
 pub enum Rule {
     Shaped(Run),
@@ -69,17 +67,26 @@ pub fn size_in(z: Sizes, arena: Arena) -> u32
     }
 }
 
+// Does a run from w on begin where those before it end, and lie in its pool ?
+fn begins(run: Run, w: u32) -> bool
+    ensures { result ≡ (eqb w run.sum && leb (w + run.span) run.room) }
+{
+    w as usize == run.sum && w as usize + run.span as usize <= run.room
+}
+
+#[tactic(auto, unfolding(crate::specs::Rules::shaped_by))]
 fn shaped(run: Run, slot: Slot, w: u32) -> bool
     ensures { result ≡ shaped_by run (slot_of slot) w }
 {
     match slot {
         Slot::Unused => w == N,
         Slot::Below(n) => w < n,
-        Slot::Start => w as usize == run.sum && w as usize + run.span as usize <= run.room,
+        Slot::Start => begins(run, w),
         _ => true,
     }
 }
 
+#[tactic(auto, unfolding(crate::specs::Rules::held_by))]
 fn held(z: Sizes, slot: Slot, w: u32) -> bool
     ensures { result ≡ held_by (size_in z) (slot_of slot) w }
 {
@@ -90,16 +97,18 @@ fn held(z: Sizes, slot: Slot, w: u32) -> bool
     }
 }
 
+#[tactic(auto, unfolding(crate::specs::Rules::within))]
 fn type_within(b: Bounds, t: TypeHandle) -> bool
     ensures { result ≡ within b (at types t.0) }
 {
-    b.every_type || t.0 < b.types
+    b.types.is_none_or(|bound| t.0 < bound)
 }
 
+#[tactic(auto, unfolding(crate::specs::Rules::within))]
 fn expression_within(b: Bounds, e: ExpressionHandle) -> bool
     ensures { result ≡ within b (at expressions e.0) }
 {
-    b.every_expression || e.0 < b.expressions
+    b.expressions.is_none_or(|bound| e.0 < bound)
 }
 
 fn init_within(b: Bounds, e: ExpressionHandle) -> bool
@@ -109,6 +118,7 @@ fn init_within(b: Bounds, e: ExpressionHandle) -> bool
 }
 
 // Do an element and all that stands behind it lie within the bounds ?
+#[tactic(auto, unfolding(crate::proofs::Behind::opened))]
 fn element_within(b: Bounds, x: Element, m: &Module) -> bool
     ensures { result ≡ all (within b) (with_behind (areas_in m.now) (element_of x ∷ [])) }
 {
@@ -127,6 +137,7 @@ fn element_within(b: Bounds, x: Element, m: &Module) -> bool
     }
 }
 
+#[tactic(auto, unfolding(crate::proofs::Opened::asks))]
 fn ordered(b: Bounds, slot: Slot, w: u32, m: &Module) -> bool
     ensures { result ≡ all (within b) (with_behind (areas_in m.now) (named_by (slot_of slot) w)) }
 {
@@ -138,6 +149,7 @@ fn ordered(b: Bounds, slot: Slot, w: u32, m: &Module) -> bool
 }
 
 // Does a word keep the rule ?
+#[tactic(auto, unfolding(crate::specs::Rules::asked))]
 fn keeps(rule: Rule, slot: Slot, w: u32, m: &Module) -> bool
     ensures { result ≡ asked (areas_in m.now) rule (slot_of slot) w }
 {
@@ -149,6 +161,7 @@ fn keeps(rule: Rule, slot: Slot, w: u32, m: &Module) -> bool
 }
 
 // May the words past the last named slot be passed over ? Only number 4 asks anything of them.
+#[tactic(auto, unfolding(crate::proofs::Opened::asks))]
 fn lenient(rule: Rule) -> bool
     ensures { result ≡ true → (s : Areas) (w : ℕ) → asked s rule unused w ≡ true }
 {
@@ -159,20 +172,19 @@ fn lenient(rule: Rule) -> bool
 }
 
 // Do the first n words of the record that starts at a place keep the rule ?
+#[tactic(auto, using(crate::proofs::Every::steps))]
 fn slots_keep(rule: Rule, ws: &[u32], at: usize, shape: u64, n: usize, m: &Module) -> bool
     ensures { result ≡ every (asked (areas_in m.now) rule) (words_from ws.now at) 0 (unpacked shape n) }
 {
     let mut rest = shape;
-    let mut k = 0;
-    while k < n {
+    for k in 0..n {
         if rest == 0 && lenient(rule) {
             return true;
         }
         if !keeps(rule, slots::first(rest), slots::word(ws, at, k), m) {
             return false;
         }
-        rest = rest / code::BASE;
-        k += 1;
+        rest /= code::BASE;
     }
     true
 }
@@ -188,37 +200,31 @@ pub fn record_keeps(rule: Rule, area: u32, i: u32, m: &Module) -> bool
     slots_keep(rule, ws, at, slots::shape(area, ws, at), width - TAIL, m)
 }
 
+// Do a type and an init lie within the limits ? Unless it must be there the init may be N.
+fn typed_fits(l: Limits, ty: u32, init: u32, must: bool) -> bool
+    ensures { result ≡ typed_fits l must ty init }
+{
+    ty < l.types && (!must && init == N || init < l.expressions)
+}
+
 // Does a constant, with its type and its init, lie within the limits ?
+#[tactic(auto, unfolding(crate::specs::Rules::fit_by))]
 fn constant_fits(l: Limits, h: ConstantHandle, m: &Module) -> bool
     ensures { result ≡ fit_by (areas_in m.now) l constants h.0 }
 {
-    if l.constants <= h.0 {
-        return false;
-    }
-    if l.types <= Constant::ty(m, h).0 {
-        return false;
-    }
-    Constant::init(m, h).0 < l.expressions
+    h.0 < l.constants && typed_fits(l, Constant::ty(m, h).0, Constant::init(m, h).0, true)
 }
 
 // And an override, which may have no init ?
+#[tactic(auto, unfolding(crate::specs::Rules::fit_by))]
 fn override_fits(l: Limits, h: OverrideHandle, m: &Module) -> bool
     ensures { result ≡ fit_by (areas_in m.now) l overrides h.0 }
 {
-    if l.overrides <= h.0 {
-        return false;
-    }
-    if l.types <= Override::ty(m, h).0 {
-        return false;
-    }
-    let init = Override::init(m, h).0;
-    if init == N {
-        return true;
-    }
-    init < l.expressions
+    h.0 < l.overrides && typed_fits(l, Override::ty(m, h).0, Override::init(m, h).0, false)
 }
 
 // Is a word good under numbers 4 to 7 at once, by its slot's code ?
+#[tactic(auto, unfolding(crate::proofs::Opened::good))]
 fn slot_good(l: Limits, code: u64, w: u32, m: &Module) -> bool
     ensures { result ≡ good_by (areas_in m.now) l (decoded code) w }
 {
@@ -229,7 +235,7 @@ fn slot_good(l: Limits, code: u64, w: u32, m: &Module) -> bool
         code::OVERRIDE => override_fits(l, OverrideHandle(w), m),
         code::EXPRESSION => w < l.expressions,
         code::MAYBE => w == N || w < l.expressions,
-        code::START => w as usize == l.run.sum && w as usize + l.run.span as usize <= l.run.room,
+        code::START => begins(l.run, w),
         code::COUNT => true,
         code::BELOW_2 => w < 2,
         code::BELOW_4 => w < 4,
@@ -240,53 +246,45 @@ fn slot_good(l: Limits, code: u64, w: u32, m: &Module) -> bool
 }
 
 // Is each word from k on, up to n, of the record that starts at a place N ?
+#[tactic(auto, using(crate::proofs::Every::steps), unfolding(crate::specs::Rules::empty))]
 fn blank(ws: &[u32], at: usize, k: usize, n: usize) -> bool
     ensures { result ≡ every empty (words_from ws.now at) k (unpacked 0 (n - k)) }
 {
-    let mut i = k;
-    while i < n {
+    for i in k..n {
         if slots::word(ws, at, i) != N {
             return false;
         }
-        i += 1;
     }
     true
 }
 
 // Are the first n words of the record that starts at a place good ?
+#[tactic(auto, using(crate::proofs::Every::steps), unfolding(crate::specs::Rules::empty, crate::specs::Rules::good_by))]
 fn slots_good(l: Limits, ws: &[u32], at: usize, shape: u64, n: usize, m: &Module) -> bool
     ensures { result ≡ every (good_by (areas_in m.now) l) (words_from ws.now at) 0 (unpacked shape n) }
 {
     let mut rest = shape;
-    let mut k = 0;
-    while k < n {
+    for k in 0..n {
         if rest == 0 {
             return blank(ws, at, k, n);
         }
         if !slot_good(l, rest % code::BASE, slots::word(ws, at, k), m) {
             return false;
         }
-        rest = rest / code::BASE;
-        k += 1;
+        rest /= code::BASE;
     }
     true
 }
 
-// Are a type and an init good, at their places in the record ? Unless it must be there the init may be N.
+// The same of those that stand at their places in a record.
 fn typed_good(l: Limits, ws: &[u32], at: usize, ty: usize, init: usize, must: bool) -> bool
     ensures { result ≡ typed_fits l must (words_from ws.now at ty) (words_from ws.now at init) }
 {
-    if l.types <= slots::word(ws, at, ty) {
-        return false;
-    }
-    let e = slots::word(ws, at, init);
-    if e == N {
-        return !must;
-    }
-    e < l.expressions
+    typed_fits(l, slots::word(ws, at, ty), slots::word(ws, at, init), must)
 }
 
 // Are all words of the record that starts at a place good, but those of its tail ?
+#[tactic(auto, unfolding(crate::proofs::Opened::good))]
 pub fn record_good(l: Limits, area: u32, ws: &[u32], at: usize, m: &Module) -> bool
     ensures { result ≡ every (good_by (areas_in m.now) l)
         (words_from ws.now at) 0 (body (numbered area) (words_from ws.now at)) }
@@ -316,17 +314,11 @@ pub fn record_good(l: Limits, area: u32, ws: &[u32], at: usize, m: &Module) -> b
 pub fn all_below(run: &[u32], bound: u32) -> bool
     ensures { result ≡ all (λ w. ltb w bound) run.now }
 {
-    let mut i = 0;
-    while i < run.len() {
-        if bound <= run[i] {
-            return false;
-        }
-        i += 1;
-    }
-    true
+    run.iter().all(|&h| h < bound)
 }
 
 // Do the counts of the runs of the first n records of an arena add up to its pool's length ?
+#[tactic(auto, using(crate::proofs::Steps::runs_none))]
 pub fn pool_used(area: u32, n: u32, m: &Module) -> bool
     ensures { result ≡ eqb (runs_before (areas_in m.now) (numbered area) n)
         (length (pool (areas_in m.now) (numbered area))) }
@@ -334,42 +326,39 @@ pub fn pool_used(area: u32, n: u32, m: &Module) -> bool
     let ws = slots::arena_words(area, m);
     let width = slots::arena_width(area);
     let mut left = slots::arena_pool(area, m).len();
-    let mut i = 0;
-    while i < n {
+    for i in 0..n {
         let span = slots::span(area, ws, i as usize * width) as usize;
         if left < span {
             return false;
         }
-        left = left - span;
-        i += 1;
+        left -= span;
     }
     left == 0
 }
 
 // One more than the init of the override that sizes type t; 0 where there is none.
+#[tactic(auto, unfolding(definitions::specs::Order::sized_by, definitions::specs::Order::one_past))]
 pub fn sized(t: TypeHandle, m: &Module) -> usize
     ensures { result ≡ sized_by (areas_in m.now) t.0 }
 {
-    if Type::kind(m, t) == 2 {
-        let init = Override::init(m, OverrideHandle(Type::b(m, t)));
-        if init.0 == N {
-            return 0;
-        }
-        return init.0 as usize + 1;
+    if Type::kind(m, t) != 2 {
+        return 0;
     }
-    0
+    match Override::init(m, OverrideHandle(Type::b(m, t))).0 {
+        N => 0,
+        init => init as usize + 1,
+    }
 }
 
 // From type t on, the first of n types that is sized by an override with an init not below expression e.
+#[tactic(auto, using(crate::proofs::Steps::leads))]
 pub fn prefix(t: u32, n: u32, e: u32, m: &Module) -> u32
     ensures { result ≡ leading (areas_in m.now) e t (n - t) }
 {
-    let mut u = t;
-    while u < n {
+    for u in t..n {
         if (e as usize) < sized(TypeHandle(u), m) {
             return u;
         }
-        u += 1;
     }
-    u
+    t.max(n)
 }

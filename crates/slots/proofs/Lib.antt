@@ -1,7 +1,7 @@
 -- The laws that callers cite.
+pub mod Tables
 pub mod Decision
 pub mod Numbered
-pub mod LastCode
 pub mod Places
 pub mod Packing
 pub mod Laws

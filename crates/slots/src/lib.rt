@@ -4,7 +4,7 @@
 pub mod code;
 mod shapes;
 
-ghost use Rattle.std.specs.Prelude.{◌≡◌, ◌+◌, ◌%◌, get_or, []};
+ghost use Rattle.std.specs.Prelude.{◌≡◌, ◌+◌, ◌%◌, get_or};
 ghost use Rattle.definitions.specs.Areas.{numbered, at, width, words, pool};
 ghost use Rattle.definitions.specs.Slots.{form_of, body};
 ghost use Rattle.slots.specs.Codes.{decoded, packed, arena_of, slot_of, words_from, span_in, run_in};
@@ -14,12 +14,12 @@ ghost use Rattle.arena.specs.Elements.{element_of};
 use arena::{
     COMPONENTS, CONSTANTS, Constant, ConstantHandle, EXPRESSIONS, Element, Expression,
     ExpressionHandle, GLOBALS, Global, GlobalHandle, MEMBERS, Module, OVERRIDES, Override,
-    OverrideHandle, TYPES, Type, TypeHandle, least,
+    OverrideHandle, TYPES, Type, TypeHandle,
 };
 pub use shapes::expression_shape;
 
 // The five arenas.
-#[derive(Clone, Copy)]
+#[derive(Clone, Copy, Debug, PartialEq, Eq)]
 pub enum Arena {
     Types,
     Constants,
@@ -29,7 +29,7 @@ pub enum Arena {
 }
 
 // What a word of a record is.
-#[derive(Clone, Copy)]
+#[derive(Clone, Copy, Debug, PartialEq, Eq)]
 pub enum Slot {
     Unused,
     Free,
@@ -57,15 +57,11 @@ pub fn element(arena: Arena, h: u32) -> Element
 pub fn word(ws: &[u32], at: usize, k: usize) -> u32
     ensures { result ≡ get_or ws.now (at + k) 0 }
 {
-    if at < ws.len() {
-        if k < ws.len() - at {
-            return ws[at + k];
-        }
-    }
-    0
+    ws.get(at.saturating_add(k)).copied().unwrap_or(0)
 }
 
 // The first slot of a shape.
+#[tactic(auto, unfolding(crate::specs::Codes::decoded, crate::specs::Codes::codes))]
 pub fn first(shape: u64) -> Slot
     ensures { slot_of result ≡ decoded (shape % 16) }
 {
@@ -87,20 +83,19 @@ pub fn first(shape: u64) -> Slot
 }
 
 // The form of an expression, where it is an `ImageSample` or an `ImageQuery`.
+#[tactic(auto, unfolding(definitions::specs::Slots::form_of))]
 fn form(ws: &[u32], at: usize) -> u32
     ensures { result ≡ form_of (words_from ws.now at) }
 {
-    let kind = word(ws, at, Expression::KIND);
-    if kind == 15 {
-        return word(ws, at, shapes::LEVEL_FORM);
+    match word(ws, at, Expression::KIND) {
+        15 => word(ws, at, shapes::LEVEL_FORM),
+        17 => word(ws, at, shapes::QUERY_FORM),
+        _ => 0,
     }
-    if kind == 17 {
-        return word(ws, at, shapes::QUERY_FORM);
-    }
-    0
 }
 
 // The slots of the body of the record that starts at a place, by its area.
+#[tactic(auto, unfolding(crate::proofs::Tables::bodies))]
 pub fn shape(area: u32, ws: &[u32], at: usize) -> u64
     ensures { result ≡ packed (body (numbered area) (words_from ws.now at)) }
 {
@@ -114,38 +109,29 @@ pub fn shape(area: u32, ws: &[u32], at: usize) -> u64
 }
 
 // The count of the run of the record that starts at a place; 0 without one.
+#[tactic(auto, unfolding(definitions::specs::Areas::numbered, crate::specs::Codes::span_in))]
 pub fn span(area: u32, ws: &[u32], at: usize) -> u32
     ensures { result ≡ span_in (numbered area) (words_from ws.now at) }
 {
     match area {
-        TYPES => {
-            if word(ws, at, Type::KIND) == 3 {
-                return word(ws, at, shapes::RUN_COUNT);
-            }
-        }
-        CONSTANTS..=GLOBALS => {}
-        _ => {
-            if word(ws, at, Expression::KIND) == 8 {
-                return word(ws, at, shapes::RUN_COUNT);
-            }
-        }
+        TYPES if word(ws, at, Type::KIND) == 3 => word(ws, at, shapes::RUN_COUNT),
+        EXPRESSIONS.. if word(ws, at, Expression::KIND) == 8 => word(ws, at, shapes::RUN_COUNT),
+        _ => 0,
     }
-    0
 }
 
 // The run of the record that starts at a place, as part of its pool.
+#[tactic(auto, unfolding(crate::specs::Codes::run_in))]
 pub fn run<'a>(area: u32, ws: &[u32], at: usize, pool: &'a [u32]) -> &'a [u32]
     ensures { result.now ≡ run_in (numbered area) (words_from ws.now at) pool.now }
 {
-    let start = least(word(ws, at, shapes::RUN_START) as usize, pool.len());
-    let end = least(
-        word(ws, at, shapes::RUN_START) as usize + span(area, ws, at) as usize,
-        pool.len(),
-    );
-    &pool[start..end]
+    let start = word(ws, at, shapes::RUN_START) as usize;
+    let end = start + span(area, ws, at) as usize;
+    &pool[start.min(pool.len())..end.min(pool.len())]
 }
 
 // The arena of an area.
+#[tactic(auto, unfolding(definitions::specs::Areas::numbered))]
 pub fn arena_at(area: u32) -> Arena
     ensures { arena_of result ≡ numbered area }
 {
@@ -159,6 +145,7 @@ pub fn arena_at(area: u32) -> Arena
 }
 
 // The width of its records.
+#[tactic(auto, unfolding(definitions::specs::Areas::numbered, definitions::specs::Areas::width))]
 pub fn arena_width(area: u32) -> usize
     ensures { result ≡ width (numbered area) }
 {
@@ -172,29 +159,21 @@ pub fn arena_width(area: u32) -> usize
 }
 
 // Its words, in a module that is only read.
+#[tactic(auto, unfolding(definitions::specs::Areas::numbered, definitions::specs::Areas::words))]
 pub fn arena_words<'a>(area: u32, m: &Module<'a>) -> &'a [u32]
     ensures { result.now ≡ words (areas_in m.now) (numbered area) }
 {
-    if area < EXPRESSIONS {
-        return m[area as usize];
-    }
-    m[EXPRESSIONS as usize]
-}
-
-// No words.
-fn none<'a>(ws: &'a [u32]) -> &'a [u32]
-    ensures { result.now ≡ [] }
-{
-    &ws[0..0]
+    m[area.min(EXPRESSIONS) as usize]
 }
 
 // The pool that its runs lie in; empty for an arena without runs.
+#[tactic(auto, unfolding(definitions::specs::Areas::numbered, definitions::specs::Areas::pool))]
 pub fn arena_pool<'a>(area: u32, m: &Module<'a>) -> &'a [u32]
     ensures { result.now ≡ pool (areas_in m.now) (numbered area) }
 {
     match area {
         TYPES => m[MEMBERS as usize],
-        CONSTANTS..=GLOBALS => none(m[MEMBERS as usize]),
+        CONSTANTS..=GLOBALS => &[],
         _ => m[COMPONENTS as usize],
     }
 }

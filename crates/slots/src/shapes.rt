@@ -83,6 +83,7 @@ const UNREAD: u64 = NO_SLOT
     | code::FREE << 9 * BITS;
 
 // By an expression's kind and its level or query form. One expression: 10 to 12, 14, 18, 19, 22, 23, 25, 26 and 31.
+#[tactic(auto, unfolding(crate::proofs::Tables::shapes))]
 pub fn expression_shape(kind: u32, form: u32) -> u64
     ensures { result ≡ packed (expr_body kind form) }
 {
@@ -104,6 +105,7 @@ pub fn expression_shape(kind: u32, form: u32) -> u64
 }
 
 // `ImageSample`: x and y by the level form.
+#[tactic(auto, unfolding(crate::proofs::Tables::shapes))]
 fn sample_shape(form: u32) -> u64
     ensures { result ≡ packed (expr_body 15 form) }
 {
@@ -115,6 +117,7 @@ fn sample_shape(form: u32) -> u64
 }
 
 // `ImageQuery`: the level by the query form.
+#[tactic(auto, unfolding(crate::proofs::Tables::shapes))]
 fn query_shape(form: u32) -> u64
     ensures { result ≡ packed (expr_body 17 form) }
 {
@@ -125,6 +128,7 @@ fn query_shape(form: u32) -> u64
 }
 
 // By a type's kind.
+#[tactic(auto, unfolding(crate::proofs::Tables::shapes))]
 pub fn type_shape(kind: u32) -> u64
     ensures { result ≡ packed (type_body kind) }
 {

@@ -8,9 +8,11 @@ use native.Mathlib.Numerals.{add-one}
 use native.Mathlib.Omega.{arith}
 use lib.ListN.{length, get_or, set, length-set}
 use lib.Seq.{get_or-set_same, get_or-set_other}
+use Rattle.std.specs.Prelude.{Option, None}
+use Rattle.std.proofs.lemmas.Option.{none-some}
 use Rattle.definitions.specs.Areas.{Areas, area_number, limit, limits, types}
 use Rattle.definitions.specs.Order.{sized_by, past_dep}
-use Rattle.tandem.specs.Deps.{dep_before, Level, Starts}
+use Rattle.tandem.specs.Deps.{dep_before, Level, Starts, Held}
 
 dep-suc : (s : Areas) (t : ℕ) → max (dep_before s t) (sized_by s t) ≡ dep_before s (suc t)
 unfolding dep_before past_dep
@@ -20,6 +22,10 @@ dep-suc s (suc t) = refl
 -- one type more
 pub dep-more : (s : Areas) (t : ℕ) {d z v : ℕ} → d ≡ dep_before s t → z ≡ sized_by s t → v ≡ max d z → v ≡ dep_before s (t + 1)
 dep-more s t p q r = rw (add-one t) (cc (dep-suc s t))
+
+-- no block is held
+pub none-held : (s : Areas) {held : Option ℕ} {block : List ℕ} → length block ≡ 256 → held ≡ None → Held s held block
+none-held s full e = (full, λ k h. absurd (none-some k (sym e ∙ h)))
 
 -- within the limit the first level holds what stands before the block of every type: none is computed anew
 pub starts-cover : (s : Areas) (n : ℕ) (l : List ℕ) → n ≤ limit types → Starts s n l

@@ -54,7 +54,6 @@ module _ (s : Areas) where
           element = at expressions (e - 1);
           next = ap (visits s t) z ∙ an-expression t (e - 1) (omega (arith, q));
           marked = h;
-          fewer = omega arith;
         }
 
     -- else the youngest type
@@ -65,7 +64,6 @@ module _ (s : Areas) where
       element = at types (t - 1);
       next = a-type t e (some-type s t e q l p) (omega (arith, q));
       marked = h;
-      fewer = omega arith;
     }
 
     -- what the contract says of the answer and of the marks
@@ -77,28 +75,25 @@ module _ (s : Areas) where
       pub bits : sweep_bits s b (room before) (take n (ahead s left)) (member now) ≡ sweep_bits s b (room before) (take budget (ahead s start)) (member before)
       pub rest : drop n (ahead s left) ≡ drop budget (ahead s start)
       pub as_long : length now ≡ length before
-      pub fewer : left.types ≤ start.types
 
     -- none is made yet
     pub at-start : (start : Left) (budget : ℕ) (before : List ℕ) → Turns start budget before start budget before
-    at-start start budget before = record { bits = refl; rest = refl; as_long = refl; fewer = omega arith }
+    at-start start budget before = record { bits = refl; rest = refl; as_long = refl }
 
     -- one is made
-    pub one-visit : {start left rest : Left} {budget n : ℕ} {before now after : List ℕ}
-        → 0 < n → OneVisit s b left rest now after → Turns start budget before left n now → Turns start budget before rest (n - 1) after
+    pub one-visit : {start left rest : Left} {budget n k : ℕ} {before now after : List ℕ}
+        → suc k ≡ n → OneVisit s b left rest now after → Turns start budget before left n now → Turns start budget before rest k after
     unfolding sweep_bits
-    one-visit {rest = rest} {n = n} {before = before} {now = now} {after = after} p v w =
-        let z : suc (n - 1) ≡ n = omega arith in
+    one-visit {rest = rest} {k = k} {before = before} {now = now} {after = after} z v w =
         let m : member after ≡ visit_bits s b (room before) (member now) v.element =
-        (λ i j. v.marked.holds j i) ∙ ap (λ k. visit_bits s b (64 * k) (member now) v.element) w.as_long in
+        (λ i j. v.marked.holds j i) ∙ ap (λ r. visit_bits s b (64 * r) (member now) v.element) w.as_long in
         record {
           bits =
-              ap (sweep_bits s b (room before) (take (n - 1) (ahead s rest))) m
+              ap (sweep_bits s b (room before) (take k (ahead s rest))) m
               ∙ ap₂ (λ k l. sweep_bits s b (room before) (take k l) (member now)) z (sym v.next)
               ∙ w.bits;
           rest = ap₂ drop z (sym v.next) ∙ w.rest;
           as_long = v.marked.as_long ∙ w.as_long;
-          fewer = omega (arith, v.fewer, w.fewer);
         }
 
     -- the budget is used up, or the visits are

@@ -1,6 +1,6 @@
 -- dep over blocks of types.
 -- Assumes nothing.
-use Rattle.std.specs.Prelude.{◌≡◌, List, ℕ, zero, suc, ◌+◌, ◌*◌, ◌<◌, length, get_or}
+use Rattle.std.specs.Prelude.{◌≡◌, Option, Some, List, ℕ, zero, suc, ◌+◌, ◌*◌, ◌<◌, length, get_or}
 use Rattle.definitions.specs.Areas.{Areas}
 use Rattle.definitions.specs.Order.{past_dep}
 
@@ -22,6 +22,6 @@ Starts s n starts = Level (λ k. (k < 256) × (k * 256 < n)) (λ k. dep_before s
 abbrev pub Block : Areas → ℕ → List ℕ → Type 0
 Block s k block = Level (λ j. j < 256) (λ j. dep_before s (k * 256 + (j + 1))) block
 
--- the second level holds block k, unless that is no block
-abbrev pub Held : Areas → ℕ → List ℕ → Type 0
-Held s k block = (length block ≡ 256) × (k < 16777216 → Block s k block)
+-- the second level has that block, if any
+abbrev pub Held : Areas → Option ℕ → List ℕ → Type 0
+Held s held block = (length block ≡ 256) × ((k : ℕ) → held ≡ Some k → Block s k block)

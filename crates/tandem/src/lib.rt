@@ -11,9 +11,10 @@ ghost use Rattle.tandem.specs.Visited.{ahead, OneVisit};
 
 use arena::handle_set::Bases;
 use arena::{ExpressionHandle, Module, TypeHandle};
+use deps::Deps;
 
 // How many types and how many expressions are left to visit: the oldest of each.
-#[derive(Clone, Copy)]
+#[derive(Clone, Copy, Debug, PartialEq, Eq)]
 pub struct Left {
     pub types: u32,
     pub expressions: u32,
@@ -28,16 +29,13 @@ fn visit(marks: &mut [u64], b: Bases, rest: Left, dep: usize, m: &Module) -> Lef
         let e = rest.expressions - 1;
         trace::trace_expression(marks, b, ExpressionHandle(e), m);
         return Left {
-            types: rest.types,
             expressions: e,
+            ..rest
         };
     }
     let t = rest.types - 1;
     trace::trace_type(marks, b, TypeHandle(t), m);
-    Left {
-        types: t,
-        expressions: rest.expressions,
-    }
+    Left { types: t, ..rest }
 }
 
 // Makes as many visits as the budget says, or all that are ahead if fewer, and answers what is left then.
@@ -51,16 +49,15 @@ pub fn type_expression_tandem(
     ensures { (ahead (areas_in m.now) result ≡ drop budget (ahead (areas_in m.now) all))
         × Swept (areas_in m.now) b (take budget (ahead (areas_in m.now) all)) marks.old marks.new }
 {
-    let mut starts = [0usize; 256];
-    let mut block = [0usize; 256];
-    deps::fill_starts(all.types, &mut starts, m);
-    let mut held = deps::NONE;
+    let mut deps = Deps::new(m);
+    deps.fill_starts(all.types);
     let mut rest = all;
-    let mut n = budget;
-    while 0 < n && (0 < rest.types || 0 < rest.expressions) {
-        let dep = deps::dep_before(all.types, &starts, rest.types, &mut held, &mut block, m);
+    for _ in 0..budget {
+        if rest.types == 0 && rest.expressions == 0 {
+            break;
+        }
+        let dep = deps.dep_before(rest.types);
         rest = visit(marks, b, rest, dep, m);
-        n -= 1;
     }
     rest
 }

@@ -62,9 +62,9 @@ opened : ℕ
 unfolding behind references named_from named_by layout slots body run span has_run
 opened = 0
 
--- an init that may be there, with nothing after it
-may-nil : {t u e w : ℕ} → t ≡ u → e ≡ w → at types u ∷ ((named_by (may expressions) w ++ []) ++ []) ≡ at types t ∷ named_by (may expressions) e
-may-nil p q = simp append-nil (sym (ap₂ (λ t e. at types t ∷ named_by (may expressions) e) p q))
+-- a type and what an init names, with nothing after it
+may-nil : {t u : ℕ} {l k : List Elem} → t ≡ u → l ≡ k → at types u ∷ ((k ++ []) ++ []) ≡ at types t ∷ l
+may-nil p q = simp append-nil (sym (ap₂ (λ t l. at types t ∷ l) p q))
 
 module _ (s : Areas) (h : ℕ) {t e : ℕ} where
   -- a type and an init, each as it was read
@@ -73,12 +73,11 @@ module _ (s : Areas) (h : ℕ) {t e : ℕ} where
   unfolding opened
   behind-constant p q = sym (ap₂ (λ t e. at types t ∷ at expressions e ∷ []) p q)
 
-  pub behind-override : t ≡ word s overrides h 1 → e ≡ word s overrides h 2
-      → behind s (at overrides h) ≡ at types t ∷ named_by (may expressions) e
+  -- an init that may be there
+  pub behind-override : {l : List Elem} → t ≡ word s overrides h 1 → e ≡ word s overrides h 2 → l ≡ named_by (may expressions) e → behind s (at overrides h) ≡ at types t ∷ l
   unfolding opened
-  behind-override p q = may-nil p q
+  behind-override p q r = may-nil p (r ∙ ap (named_by (may expressions)) q)
 
-  pub behind-global : t ≡ word s globals h 0 → e ≡ word s globals h 1
-      → behind s (at globals h) ≡ at types t ∷ named_by (may expressions) e
+  pub behind-global : {l : List Elem} → t ≡ word s globals h 0 → e ≡ word s globals h 1 → l ≡ named_by (may expressions) e → behind s (at globals h) ≡ at types t ∷ l
   unfolding opened
-  behind-global p q = may-nil p q
+  behind-global p q r = may-nil p (r ∙ ap (named_by (may expressions)) q)

@@ -1,12 +1,13 @@
 -- Marks as bits: what marking some elements, one visit and some visits make of the set of marked bits, for any words.
 -- Assumes nothing.
-use Rattle.std.specs.Prelude.{◌≡◌, Bool, false, ◌&&◌, ◌||◌, cond, List, [], ◌∷◌, ◌++◌, map, ℕ, length, eqb, ltb}
+use Rattle.std.specs.Prelude.{◌≡◌, Option, None, Some, Bool, false, ◌&&◌, ◌||◌, cond, List, [], ◌∷◌, ◌++◌, map, ℕ, length, eqb, ltb}
 use Rattle.definitions.specs.Lists.{always, count_up, select}
 use Rattle.definitions.specs.Areas.{Areas, Arena, Elem, at}
 use Rattle.definitions.specs.References.{references}
 use Rattle.definitions.specs.Roots.{mention, is_named, root_constant, named_override}
 use Rattle.definitions.specs.Order.{with_behind}
 use Rattle.arena.specs.HandleSet.{bit, member, room}
+use Rattle.arena.specs.declared.ExpressionHandle.{ExpressionHandle}
 use Rattle.arena.specs.declared.handle_set.Bases.{Bases}
 use Rattle.arena.specs.declared.sizes.Sizes.{Sizes}
 
@@ -22,6 +23,11 @@ added n is p j = p j || (among is j && ltb j n)
 -- the bits of some elements and of all that is marked with them
 unfoldable pub bits_of : Areas → Bases → List Elem → List ℕ
 bits_of s b xs = map (bit b) (with_behind s xs)
+
+-- an init that may be there
+abbrev pub init_of : Option ExpressionHandle → List Elem
+init_of None = []
+init_of (Some h) = at Arena.expressions h.0 ∷ []
 
 -- words that hold just the bits of a set, and are as many as before
 pub record Holds (before : List ℕ) (p : ℕ → Bool) (after : List ℕ) : Type 0 where

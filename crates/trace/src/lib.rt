@@ -3,7 +3,7 @@
 
 mod roots;
 
-ghost use Rattle.std.specs.Prelude.{[], ◌∷◌, map};
+ghost use Rattle.std.specs.Prelude.{◌≡◌, [], ◌∷◌, map};
 ghost use Rattle.definitions.specs.Areas.{at, numbered, types, constants, overrides, globals, expressions};
 ghost use Rattle.definitions.specs.Slots.{may};
 ghost use Rattle.definitions.specs.References.{named_by, named_from};
@@ -11,7 +11,7 @@ ghost use Rattle.arena.specs.Lent.{areas_in};
 ghost use Rattle.arena.specs.Elements.{element_of};
 ghost use Rattle.arena.specs.HandleSet.{bit};
 ghost use Rattle.slots.specs.Codes.{decoded, unpacked, words_from};
-ghost use Rattle.trace.specs.Bits.{Put, Marked, Visited};
+ghost use Rattle.trace.specs.Bits.{init_of, Put, Marked, Visited};
 
 use arena::handle_set::Bases;
 use arena::{
@@ -21,13 +21,19 @@ use arena::{
 pub use roots::mark_roots;
 use slots::code;
 
-// Marks a type and, unless it is N, an init.
-fn mark_both(marks: &mut [u64], b: Bases, ty: TypeHandle, init: ExpressionHandle)
-    ensures { Put (map (bit b) (at types ty.0 ∷ named_by (may expressions) init.0))
-        marks.old marks.new }
+// The init that a word names: none where it is N.
+fn maybe(init: ExpressionHandle) -> Option<ExpressionHandle>
+    ensures { init_of result ≡ named_by (may expressions) init.0 }
+{
+    (init.0 != N).then_some(init)
+}
+
+// Marks an element's type and its init.
+fn mark_both(marks: &mut [u64], b: Bases, ty: TypeHandle, init: Option<ExpressionHandle>)
+    ensures { Put (map (bit b) (at types ty.0 ∷ init_of init)) marks.old marks.new }
 {
     handle_set::insert(marks, b, Element::Type(ty));
-    if init.0 != N {
+    if let Some(init) = init {
         handle_set::insert(marks, b, Element::Expression(init));
     }
 }
@@ -37,8 +43,8 @@ fn mark_constant(marks: &mut [u64], b: Bases, h: ConstantHandle, m: &Module)
     ensures { Marked (areas_in m.now) b (at constants h.0 ∷ []) marks.old marks.new }
 {
     handle_set::insert(marks, b, Element::Constant(h));
-    handle_set::insert(marks, b, Element::Type(Constant::ty(m, h)));
-    handle_set::insert(marks, b, Element::Expression(Constant::init(m, h)));
+    let init = Constant::init(m, h);
+    mark_both(marks, b, Constant::ty(m, h), Some(init));
 }
 
 // Marks an override with its type and init.
@@ -46,7 +52,7 @@ fn mark_override(marks: &mut [u64], b: Bases, h: OverrideHandle, m: &Module)
     ensures { Marked (areas_in m.now) b (at overrides h.0 ∷ []) marks.old marks.new }
 {
     handle_set::insert(marks, b, Element::Override(h));
-    mark_both(marks, b, Override::ty(m, h), Override::init(m, h));
+    mark_both(marks, b, Override::ty(m, h), maybe(Override::init(m, h)));
 }
 
 // Marks a global with its type and init.
@@ -54,7 +60,7 @@ fn mark_global(marks: &mut [u64], b: Bases, h: GlobalHandle, m: &Module)
     ensures { Marked (areas_in m.now) b (at globals h.0 ∷ []) marks.old marks.new }
 {
     handle_set::insert(marks, b, Element::Global(h));
-    mark_both(marks, b, Global::ty(m, h), Global::init(m, h));
+    mark_both(marks, b, Global::ty(m, h), maybe(Global::init(m, h)));
 }
 
 // Marks an element; a constant, override or global with its type and init at once.
@@ -94,11 +100,12 @@ fn trace_slots(marks: &mut [u64], b: Bases, ws: &[u32], at: usize, shape: u64, m
         marks.old marks.new }
 {
     let mut rest = shape;
-    let mut k = 0;
-    while k < code::WORDS && rest != 0 {
+    for k in 0..code::WORDS {
+        if rest == 0 {
+            break;
+        }
         trace_slot(marks, b, rest % code::BASE, slots::word(ws, at, k), m);
-        rest = rest / code::BASE;
-        k += 1;
+        rest /= code::BASE;
     }
 }
 
@@ -106,10 +113,8 @@ fn trace_slots(marks: &mut [u64], b: Bases, ws: &[u32], at: usize, shape: u64, m
 fn trace_run(marks: &mut [u64], b: Bases, area: u32, run: &[u32])
     ensures { Put (map (bit b) (map (at (numbered area)) run.now)) marks.old marks.new }
 {
-    let mut i = 0;
-    while i < run.len() {
-        handle_set::insert(marks, b, slots::element(slots::arena_at(area), run[i]));
-        i += 1;
+    for h in run {
+        handle_set::insert(marks, b, slots::element(slots::arena_at(area), *h));
     }
 }
 

@@ -37,12 +37,10 @@ fn mark_those(marks: &mut [u64], b: Bases, area: u32, n: u32, m: &Module)
     ensures { Marked (areas_in m.now) b (those_in (areas_in m.now) (numbered area) n)
         marks.old marks.new }
 {
-    let mut i = 0;
-    while i < n {
+    for i in 0..n {
         if is_root(area, i, m) {
             mark(marks, b, slots::element(slots::arena_at(area), i), m);
         }
-        i += 1;
     }
 }
 
@@ -51,12 +49,10 @@ fn mark_mentions(marks: &mut [u64], b: Bases, n: u32, m: &Module)
     ensures { Marked (areas_in m.now) b (map (mention (areas_in m.now)) (count_up 0 n))
         marks.old marks.new }
 {
-    let mut i = 0;
-    while i < n {
+    for i in 0..n {
         let area = Mention::area(m, i);
         let h = Mention::handle(m, i);
         mark(marks, b, slots::element(slots::arena_at(area), h), m);
-        i += 1;
     }
 }
 

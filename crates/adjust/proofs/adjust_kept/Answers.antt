@@ -58,4 +58,7 @@ carry_tail-requires c = omega (arith, tail-fits (numbered c.args.area))
 pub returns : goal.returns
 returns c =
     let a = c.args in
-    stored _ a.start (numbered a.area) a.ws.now a.from a.to _ (omega arith) (omega (arith, tail-fits (numbered a.area))) c.adjust_body.ensures c.carry_tail.ensures
+    let new : Words = c.adjust_body.new.ws in
+    let fits = tail-fits (numbered a.area) in
+    let last = c.carry_tail.ensures ∙ ap₂ (λ to from. sets new to (carried (words_from new from) 0 tail)) c.past.ensures.1 c.past.ensures.0 in
+    stored _ a.start (numbered a.area) a.ws.now a.shift.from a.shift.to _ (omega arith) (omega arith) c.adjust_body.ensures last

@@ -1,12 +1,8 @@
 -- After h turns the pass stands as `Packing` says.
 -- Assumes nothing.
-use Prim.Native.Nat.{◌-◌, ◌≤◌}
 use Rattle.definitions.specs.Areas.{numbered}
 use Rattle.adjust.proofs.Passes.{Packing}
 use Rattle.adjust.proofs.adjust_pool.Given as goal
 
 abbrev pub invariant-loop-h : goal.invariant-loop-h
-invariant-loop-h l = (l.h ≤ l.n) × Packing l.own (numbered l.area) l.ws l.initial.pool l.width l.pool l.from l.to l.at l.h
-
-abbrev pub decreases-loop-h : goal.decreases-loop-h
-decreases-loop-h l = l.n - l.h
+invariant-loop-h l = Packing l.own (numbered l.area) l.ws l.initial.pool l.width l.pool l.from l.to l.h

@@ -12,7 +12,7 @@ use Rattle.definitions.specs.Areas.{Words}
 use Rattle.definitions.specs.Slots.{Slot}
 use Rattle.definitions.specs.Outcome.{Maps}
 use Rattle.slots.specs.Codes.{decoded, unpacked, words_from}
-use Rattle.arena.specs.Lent.{maps_of}
+use Rattle.arena.specs.Lent.{maps_in}
 use Rattle.adjust.specs.Rewrite.{adjusted_by, record_from}
 use Rattle.adjust.proofs.Stores.{Storing, none-stored, one-stored, all-stored}
 use Rattle.adjust.proofs.adjust_record.Given as goal
@@ -52,8 +52,4 @@ module _ (p : Maps) (b : ℕ) (old : Words) (from n shape : ℕ) where
 
 abbrev pub invariant-loop-k : goal.invariant-loop-k
 invariant-loop-k l =
-    (l.k ≤ l.n) × Partway (maps_of l.type_map l.constant_map l.override_map l.global_map l.expression_map) l.start l.initial.ws l.from l.n l.shape l.ws l.to l.rest l.k
-
-abbrev pub decreases-loop-k : goal.decreases-loop-k
-decreases-loop-k l =
-    l.n - l.k
+    Partway (maps_in l.maps) l.start l.initial.ws l.shift.from l.n l.shape l.ws l.shift.to l.rest l.k

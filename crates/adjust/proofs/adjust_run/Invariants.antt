@@ -37,7 +37,4 @@ module _ (own pool : Words) (from n : ℕ) where
       (q ∙ ap (λ w. w ∷ left (k + 1)) (sym (e ∙ ap (lookup own) (s.ahead (from + k) (omega arith))))) s
 
 abbrev pub invariant-loop-k : goal.invariant-loop-k
-invariant-loop-k l = (l.k ≤ l.n) × Storing l.initial.pool l.pool l.to l.k (left l.own l.initial.pool l.from l.n l.k) (whole l.own l.initial.pool l.from l.n)
-
-abbrev pub decreases-loop-k : goal.decreases-loop-k
-decreases-loop-k l = l.n - l.k
+invariant-loop-k l = Storing l.initial.pool l.pool l.shift.to l.k (left l.own l.initial.pool l.shift.from l.n l.k) (whole l.own l.initial.pool l.shift.from l.n)

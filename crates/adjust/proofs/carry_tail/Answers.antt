@@ -4,9 +4,8 @@ use mathlib.Core.Path.{◌≡◌}
 use Prim.Native.Nat.{ℕ, suc, ◌+◌}
 use native.Mathlib.Nat.{add-zero}
 use native.Mathlib.Omega.{arith}
-use lib.ListN.{get_or, set, length-set}
+use lib.ListN.{get_or, set}
 use lib.Seq.{sets}
-use borrow.Author.Rules.{rules}
 use Rattle.definitions.specs.Areas.{Words}
 use Rattle.definitions.specs.Slots.{tail, carried}
 use Rattle.slots.specs.Codes.{words_from}
@@ -22,16 +21,5 @@ three ws from to =
     let two : to + 2 ≡ suc (suc to) = omega arith in
     rw (one, two, add-zero to)
 
-pub bounds-ws-to-2 : goal.bounds-ws-to-2
-bounds-ws-to-2 c =
-    let a = c.args in
-    search (rules, length-set a.ws.now (a.to + 0) (get_or a.ws.now (a.from + 0) 0))
-
-pub bounds-ws-to-3 : goal.bounds-ws-to-3
-bounds-ws-to-3 c =
-    let a = c.args in
-    let f : ℕ → ℕ = words_from a.ws.now a.from in
-    search (rules, length-set a.ws.now (a.to + 0) (f 0), length-set (set a.ws.now (a.to + 0) (f 0)) (a.to + 1) (f 1))
-
 pub returns : goal.returns
-returns c = let a = c.args in three a.ws.now a.from a.to
+returns c = let a = c.args in three a.ws.now a.shift.from a.shift.to

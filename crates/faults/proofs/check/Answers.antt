@@ -1,4 +1,4 @@
--- `check` meets its contract: it judges the module and the lengths that it was given.
+-- `check` meets its contract: it judges the module and the lengths of the maps.
 -- Assumes nothing.
 use Rattle.definitions.specs.Outcome.{lengths}
 use Rattle.faults.proofs.check.Goals as goal

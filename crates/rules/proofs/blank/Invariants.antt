@@ -9,6 +9,3 @@ use Rattle.rules.proofs.blank.Given as goal
 
 abbrev pub invariant-loop-i : goal.invariant-loop-i
 invariant-loop-i l = every empty (words_from l.ws l.at) l.i (unpacked 0 (l.n - l.i)) ≡ every empty (words_from l.ws l.at) l.k (unpacked 0 (l.n - l.k))
-
-abbrev pub decreases-loop-i : goal.decreases-loop-i
-decreases-loop-i l = l.n - l.i

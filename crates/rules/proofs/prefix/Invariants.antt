@@ -9,6 +9,3 @@ use Rattle.rules.proofs.prefix.Given as goal
 abbrev pub invariant-loop-u : goal.invariant-loop-u
 invariant-loop-u l =
     leading (areas_in l.m) l.e l.u (l.n - l.u) ≡ leading (areas_in l.m) l.e l.t (l.n - l.t)
-
-abbrev pub decreases-loop-u : goal.decreases-loop-u
-decreases-loop-u l = l.n - l.u

@@ -11,6 +11,3 @@ use Rattle.rules.proofs.slots_good.Given as goal
 abbrev pub invariant-loop-k : goal.invariant-loop-k
 invariant-loop-k l =
     every (good_by (areas_in l.m) l.l) (words_from l.ws l.at) l.k (unpacked l.rest (l.n - l.k)) ≡ every (good_by (areas_in l.m) l.l) (words_from l.ws l.at) 0 (unpacked l.shape l.n)
-
-abbrev pub decreases-loop-k : goal.decreases-loop-k
-decreases-loop-k l = l.n - l.k

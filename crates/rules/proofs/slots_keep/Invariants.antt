@@ -1,7 +1,7 @@
 -- The loop's invariant: all words keep the rule just where all that are left do.
 -- Assumes nothing.
 use mathlib.Core.Path.{◌≡◌}
-use Prim.Native.Nat.{◌-◌, ◌≤◌}
+use Prim.Native.Nat.{◌-◌}
 use Rattle.definitions.specs.Refusals.{every}
 use Rattle.arena.specs.Lent.{areas_in}
 use Rattle.slots.specs.Codes.{unpacked, words_from}
@@ -10,9 +10,5 @@ use Rattle.rules.proofs.slots_keep.Given as goal
 
 abbrev pub invariant-loop-k : goal.invariant-loop-k
 invariant-loop-k l =
-    (l.k ≤ l.n)
-    × (every (asked (areas_in l.m) l.rule) (words_from l.ws l.at) l.k (unpacked l.rest (l.n - l.k))
-    ≡ every (asked (areas_in l.m) l.rule) (words_from l.ws l.at) 0 (unpacked l.shape l.n))
-
-abbrev pub decreases-loop-k : goal.decreases-loop-k
-decreases-loop-k l = l.n - l.k
+    every (asked (areas_in l.m) l.rule) (words_from l.ws l.at) l.k (unpacked l.rest (l.n - l.k))
+    ≡ every (asked (areas_in l.m) l.rule) (words_from l.ws l.at) 0 (unpacked l.shape l.n)

@@ -1,14 +1,12 @@
 -- The loop's invariant: what is left of the visits makes the whole.
 -- Assumes nothing.
+use mathlib.Core.Path.{◌≡◌}
+use Prim.Native.Nat.{◌-◌}
 use Rattle.arena.specs.Lent.{areas_in}
-use Rattle.tandem.specs.Deps.{Held}
 use Rattle.tandem.proofs.Turns.{Turns}
 use Rattle.tandem.proofs.type_expression_tandem.Given as goal
 
-abbrev pub invariant-loop-n : goal.invariant-loop-n
-invariant-loop-n l =
-    Turns (areas_in l.m) l.b l.all l.budget l.initial.marks l.rest l.n l.marks
-    × Held (areas_in l.m) l.held l.block
-
-abbrev pub decreases-loop-n : goal.decreases-loop-n
-decreases-loop-n l = l.n
+abbrev pub invariant-loop : goal.invariant-loop
+invariant-loop l =
+    (l.deps.m.now ≡ l.m)
+    × Turns (areas_in l.m) l.b l.fn.all l.budget l.initial.marks l.rest (l.budget - l.counter) l.marks

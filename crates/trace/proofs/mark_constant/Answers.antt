@@ -1,7 +1,6 @@
 -- `trace::mark_constant` meets its contract.
 -- Assumes nothing.
 use Rattle.arena.specs.Lent.{areas_in}
-use Rattle.trace.proofs.Sets.{put_one, put-more}
 use Rattle.trace.proofs.Behind.{marked-one, behind-constant}
 use Rattle.trace.proofs.mark_constant.Goals as goal
 
@@ -9,5 +8,4 @@ pub returns : goal.returns
 returns c =
     let a = c.args in
     let s = areas_in a.m.now in
-    marked-one s a.b _ _ (behind-constant s _ c.ty.ensures c.init.ensures) c.insert.ensures
-    (put-more _ _ (put_one c.insert-2.ensures) (put_one c.insert-3.ensures))
+    marked-one s a.b _ _ (behind-constant s _ c.ty.ensures c.init-init.ensures) c.insert.ensures c.mark_both.ensures

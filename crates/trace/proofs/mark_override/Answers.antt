@@ -8,4 +8,4 @@ pub returns : goal.returns
 returns c =
     let a = c.args in
     let s = areas_in a.m.now in
-    marked-one s a.b _ _ (behind-override s _ c.ty.ensures c.init.ensures) c.insert.ensures c.mark_both.ensures
+    marked-one s a.b _ _ (behind-override s _ c.ty.ensures c.init.ensures c.maybe.ensures) c.insert.ensures c.mark_both.ensures

@@ -1,21 +1,12 @@
 -- `trace::trace` meets its contract: the record's words are those from its place on.
 -- Assumes nothing.
-use mathlib.Core.Path.{◌≡◌, refl, sym, ap, ◌∙◌}
-use mathlib.Core.Bool.{Bool}
-use mathlib.Core.List.{List}
-use Prim.Native.Nat.{ℕ}
+use mathlib.Core.Path.{refl}
 use native.Mathlib.Omega.{arith}
-use Rattle.definitions.specs.Areas.{Arena, Elem, at, numbered}
+use Rattle.definitions.specs.Areas.{at, numbered}
 use Rattle.arena.specs.Lent.{areas_in}
-use Rattle.arena.specs.HandleSet.{bit, member}
-use Rattle.arena.specs.declared.handle_set.Bases.{Bases}
 use Rattle.slots.proofs.Places.{place-fits}
 use Rattle.trace.proofs.Visit.{marked-references, marked-slots, visit-marked, visit-unmarked}
 use Rattle.trace.proofs.trace.Goals as goal
-
--- the test is that of the record
-tested : (b : Bases) (v : List ℕ) {t r : Bool} {x : Elem} {a g : Arena} {i : ℕ} → t ≡ member v (bit b x) → x ≡ at g i → g ≡ a → t ≡ r → r ≡ member v (bit b (at a i))
-tested b v {i = i} m e f q = sym q ∙ m ∙ ap (λ y. member v (bit b y)) (e ∙ ap (λ a. at a i) f)
 
 pub overflow_mul-at : goal.overflow_mul-at
 overflow_mul-at c =
@@ -27,8 +18,7 @@ returns-then-span-ne0 c =
     let a = c.args in
     let s = areas_in a.m.now in
     let g = numbered a.area in
-    let t = tested a.b a.marks.now c.contains.ensures c.element.ensures c.arena_at.ensures c.if-contains.true in
-    visit-marked s a.b (at g a.i) t
+    visit-marked s a.b (at g a.i) (cc)
     (marked-references s a.b g a.i c.arena_words-ws.ensures c.arena_pool.ensures c.arena_width.ensures _ c.shape.ensures
     c.run.ensures c.trace_slots.ensures c.trace_run.ensures)
 
@@ -37,13 +27,11 @@ returns-else-span-ne0 c =
     let a = c.args in
     let s = areas_in a.m.now in
     let g = numbered a.area in
-    let t = tested a.b a.marks.now c.contains.ensures c.element.ensures c.arena_at.ensures c.if-contains.true in
-    visit-marked s a.b (at g a.i) t
+    visit-marked s a.b (at g a.i) (cc)
     (marked-slots s a.b g a.i c.arena_words-ws.ensures refl c.arena_width.ensures _ c.shape.ensures
     c.span.ensures c.if-span-ne0.false c.trace_slots.ensures)
 
 pub returns-else-contains : goal.returns-else-contains
 returns-else-contains c =
     let a = c.args in
-    visit-unmarked (areas_in a.m.now) a.b (at (numbered a.area) a.i)
-    (tested a.b a.marks.now c.contains.ensures c.element.ensures c.arena_at.ensures c.if-contains.false)
+    visit-unmarked (areas_in a.m.now) a.b (at (numbered a.area) a.i) (cc)

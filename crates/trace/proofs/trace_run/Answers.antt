@@ -10,7 +10,6 @@ use Rattle.definitions.specs.Areas.{Arena, Elem, at, numbered}
 use Rattle.arena.specs.HandleSet.{bit}
 use Rattle.arena.specs.declared.handle_set.Bases.{Bases}
 use Rattle.trace.proofs.Sets.{put_one, left-turn, left-done}
-use borrow.Author.Rules.{rules}
 use Rattle.trace.proofs.trace_run.Invariants.{from}
 use Rattle.trace.proofs.trace_run.Goals as goal
 
@@ -23,18 +22,15 @@ turn b area run i h p q =
 done : (b : Bases) (area : ℕ) (run : List ℕ) (i : ℕ) → length run ≤ i → from b area run i ≡ []
 done b area run i h = ap (λ r. map (bit b) (map (at (numbered area)) r)) (drop_of_length-le run h)
 
-pub loop-i-init : goal.loop-i-init
-loop-i-init c = (search rules, λ u p. p)
-
-pub loop-i-preserved : goal.loop-i-preserved
-loop-i-preserved c =
+pub loop-h-preserved : goal.loop-h-preserved
+loop-h-preserved c =
     let a = c.args in
-    let l = c.loop-i in
-    let x = turn a.b a.area a.run.now l.i c.loop-i-test.true c.arena_at.ensures c.element.ensures in
-    (search rules, left-turn _ _ (_ ∷ []) _ x (put_one c.insert.ensures) l.invariant.1)
+    let l = c.loop-h in
+    let x = turn a.b a.area a.run.now l.h-index c.loop-h-test.true c.arena_at.ensures c.element.ensures in
+    left-turn _ _ (_ ∷ []) _ x (put_one c.insert.ensures) l.invariant
 
 pub returns : goal.returns
 returns c =
     let a = c.args in
-    let l = c.loop-i in
-    left-done _ _ (done a.b a.area a.run.now l.i c.loop-i-test.false) l.invariant.1
+    let l = c.loop-h in
+    left-done _ _ (done a.b a.area a.run.now l.h-index c.loop-h-test.false) l.invariant

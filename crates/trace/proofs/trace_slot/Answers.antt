@@ -6,13 +6,14 @@ use Prim.Native.Nat.{ℕ}
 use native.Mathlib.Decide.{dec_le}
 use native.Mathlib.Omega.{arith}
 use lib.ListN.{get_or-eq_default}
+use borrow.Author.Rules.{rules}
 use borrow.Author.Tests.{eq-eqb, ne_eqb}
-use Rattle.definitions.specs.Areas.{N, Elem, at, types, constants, overrides, expressions}
+use Rattle.definitions.specs.Areas.{N, Elem}
 use Rattle.definitions.specs.Slots.{unused}
 use Rattle.definitions.specs.References.{named_by}
 use Rattle.slots.specs.Codes.{codes, decoded}
 use Rattle.arena.specs.Lent.{areas_in}
-use Rattle.slots.proofs.Decision.{NoneOf, at-keys, in-range}
+use Rattle.slots.proofs.Decision.{NoneOf, in-range}
 use Rattle.trace.proofs.Behind.{marked-as, marked-none, marked-type, marked-expression}
 use Rattle.trace.proofs.trace_slot.Goals as goal
 
@@ -40,48 +41,32 @@ module _ (w : ℕ) where
 
 pub returns-in-2 : goal.returns-in-2
 unfolding table
-returns-in-2 c =
-    let a = c.args in
-    let s = areas_in a.m.now in
-    marked-as s a.b (at-keys (Names a.w (at types a.w ∷ [])) (2 ∷ []) (refl, tt) _ c.in-2.is) (marked-type s a.b _ c.insert.ensures)
+returns-in-2 c = let a = c.args in rw c.in-2.is (marked-type (areas_in a.m.now) a.b a.w c.insert.ensures)
 
 pub returns-in-3 : goal.returns-in-3
 unfolding table
-returns-in-3 c =
-    let a = c.args in
-    let s = areas_in a.m.now in
-    marked-as s a.b (at-keys (Names a.w (at constants a.w ∷ [])) (3 ∷ []) (refl, tt) _ c.in-3.is) c.mark_constant.ensures
+returns-in-3 c = rw c.in-3.is c.mark_constant.ensures
 
 pub returns-in-4 : goal.returns-in-4
 unfolding table
-returns-in-4 c =
-    let a = c.args in
-    let s = areas_in a.m.now in
-    marked-as s a.b (at-keys (Names a.w (at overrides a.w ∷ [])) (4 ∷ []) (refl, tt) _ c.in-4.is) c.mark_override.ensures
+returns-in-4 c = rw c.in-4.is c.mark_override.ensures
 
 pub returns-in-5 : goal.returns-in-5
 unfolding table
-returns-in-5 c =
-    let a = c.args in
-    let s = areas_in a.m.now in
-    marked-as s a.b (at-keys (Names a.w (at expressions a.w ∷ [])) (5 ∷ []) (refl, tt) _ c.in-5.is) (marked-expression s a.b _ c.insert-in-5.ensures)
+returns-in-5 c = let a = c.args in rw c.in-5.is (marked-expression (areas_in a.m.now) a.b a.w c.insert-in-5.ensures)
 
 pub returns-then-w-ne-N : goal.returns-then-w-ne-N
 unfolding table
 returns-then-w-ne-N c =
     let a = c.args in
-    let s = areas_in a.m.now in
-    marked-as s a.b (at-keys (Names a.w (at expressions a.w ∷ [])) (6 ∷ []) (rw (ne_eqb _ N c.if-w-ne-N.true), tt) _ c.in-6.is) (marked-expression s a.b _ c.insert-then-w-ne-N.ensures)
+    rw (c.in-6.is, ne_eqb a.w N c.if-w-ne-N.true) (marked-expression (areas_in a.m.now) a.b a.w c.insert-then-w-ne-N.ensures)
 
 pub returns-else-w-ne-N : goal.returns-else-w-ne-N
 unfolding table
-returns-else-w-ne-N c =
-    let a = c.args in
-    let s = areas_in a.m.now in
-    marked-as s a.b (at-keys (Names a.w ([])) (6 ∷ []) (rw (eq-eqb _ N c.if-w-ne-N.false), tt) _ c.in-6.is) (marked-none s a.b _)
+returns-else-w-ne-N c = let a = c.args in rw (c.in-6.is, eq-eqb a.w N c.if-w-ne-N.false) (marked-none (areas_in a.m.now) a.b a.marks.now)
 
 pub returns-in_default : goal.returns-in_default
 returns-in_default c =
     let a = c.args in
     let s = areas_in a.m.now in
-    marked-as s a.b (none a.w a.code c.in_default.in_default-own.rest) (marked-none s a.b _)
+    marked-as s a.b (none a.w a.code (search rules)) (marked-none s a.b _)

@@ -10,7 +10,6 @@ use Rattle.slots.specs.Codes.{decoded, unpacked, words_from}
 use Rattle.arena.specs.Lent.{areas_in}
 use Rattle.slots.proofs.Laws.{named_none}
 use Rattle.trace.proofs.Behind.{marked_turn, marked-done}
-use borrow.Author.Rules.{rules}
 use Rattle.trace.proofs.trace_slots.Goals as goal
 
 module _ (f : ℕ → ℕ) (rest k : ℕ) where
@@ -30,9 +29,6 @@ module _ (f : ℕ → ℕ) (rest k : ℕ) where
   unfolding named_from unpacked
   all-passed h = let m : 10 - k ≡ 0 = omega arith in rw m
 
-pub loop-k-init : goal.loop-k-init
-loop-k-init c = (search rules, λ u p. p)
-
 pub loop-k-preserved : goal.loop-k-preserved
 loop-k-preserved c =
     let a = c.args in
@@ -40,15 +36,15 @@ loop-k-preserved c =
     let s = areas_in a.m.now in
     let f = words_from a.ws.now a.at in
     let x = turn f l.rest l.k (omega arith) c.word.ensures in
-    (search rules, marked_turn s a.b _ _ _ _ x c.trace_slot.ensures l.invariant.1)
+    marked_turn s a.b _ _ _ _ x c.trace_slot.ensures l.invariant
 
-pub returns-else-rest-ne0 : goal.returns-else-rest-ne0
-returns-else-rest-ne0 c =
+pub returns-then-rest-eq0 : goal.returns-then-rest-eq0
+returns-then-rest-eq0 c =
     let a = c.args in
     let l = c.loop-k in
     let s = areas_in a.m.now in
     let f = words_from a.ws.now a.at in
-    marked-done s a.b _ _ (none_left f l.rest l.k c.if-rest-ne0.false) l.invariant.1
+    marked-done s a.b _ _ (none_left f l.rest l.k c.if-rest-eq0.true) l.invariant
 
 pub returns-after-loop-k : goal.returns-after-loop-k
 returns-after-loop-k c =
@@ -56,4 +52,4 @@ returns-after-loop-k c =
     let l = c.loop-k in
     let s = areas_in a.m.now in
     let f = words_from a.ws.now a.at in
-    marked-done s a.b _ _ (all-passed f l.rest l.k c.loop-k-test.false) l.invariant.1
+    marked-done s a.b _ _ (all-passed f l.rest l.k c.loop-k-test.false) l.invariant

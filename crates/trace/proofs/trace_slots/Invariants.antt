@@ -1,6 +1,6 @@
 -- The loop's invariant: what the slots that are left name is left to mark.
 -- Assumes nothing.
-use Prim.Native.Nat.{◌-◌, ◌≤◌}
+use Prim.Native.Nat.{◌-◌}
 use Rattle.definitions.specs.References.{named_from}
 use Rattle.slots.specs.Codes.{unpacked, words_from}
 use Rattle.arena.specs.Lent.{areas_in}
@@ -12,7 +12,4 @@ abbrev pub invariant-loop-k : goal.invariant-loop-k
 invariant-loop-k l =
     let s = areas_in l.m in
     let f = words_from l.ws l.at in
-    (l.k ≤ 10) × Left (bits_of s l.b (named_from f 0 (unpacked l.shape 10))) l.initial.marks (bits_of s l.b (named_from f l.k (unpacked l.rest (10 - l.k)))) l.marks
-
-abbrev pub decreases-loop-k : goal.decreases-loop-k
-decreases-loop-k l = 10 - l.k
+    Left (bits_of s l.b (named_from f 0 (unpacked l.shape 10))) l.initial.marks (bits_of s l.b (named_from f l.k (unpacked l.rest (10 - l.k)))) l.marks

@@ -1,30 +1,16 @@
 -- `judge` meets its contract: the verdict, and the marking where it accepts.
 -- Assumes nothing.
+use Rattle.std.proofs.lemmas.Result.{err_from_is_err_and}
 use Rattle.compact.proofs.Close.{accepts, judges-accepted, judges-refused}
-use Rattle.definitions.specs.Areas.{areas_of}
-use Rattle.arena.specs.Lent.{maps_of}
 use Rattle.compact.proofs.judge.judge.Goals as goal
 
-pub returns-in-Refused : goal.returns-in-Refused
-returns-in-Refused c =
-    let a = c.args in
-    let s =
-    areas_of a.types.now a.constants.now a.overrides.now a.globals.now a.expressions.now a.members.now a.components.now a.mentions.now in
-    let p = maps_of a.type_map.now a.constant_map.now a.override_map.now a.global_map.now a.expression_map.now in
-    judges-refused s p c.check-v.ensures c.in-Refused.is
+pub returns-in_err-check : goal.returns-in_err-check
+returns-in_err-check c =
+    let r = err_from_is_err_and c.from_residual.result c.from_residual.ensures.1 in
+    rw (r.1, r.2) (judges-refused _ _ c.check.ensures c.in_err-check.was)
 
-pub mark-requires : goal.mark-requires
-mark-requires c =
-    let a = c.args in
-    let s =
-    areas_of a.types.now a.constants.now a.overrides.now a.globals.now a.expressions.now a.members.now a.components.now a.mentions.now in
-    let p = maps_of a.type_map.now a.constant_map.now a.override_map.now a.global_map.now a.expression_map.now in
-    record { accepts = accepts s p c.check-v.ensures c.in_default.is; marks_value = c.requires }
+pub mark-requires-clause-accepts : goal.mark-requires-clause-accepts
+mark-requires-clause-accepts c = accepts _ _ c.check.ensures c.in_ok-check.was
 
 pub returns : goal.returns
-returns c =
-    let a = c.args in
-    let s =
-    areas_of a.types.now a.constants.now a.overrides.now a.globals.now a.expressions.now a.members.now a.components.now a.mentions.now in
-    let p = maps_of a.type_map.now a.constant_map.now a.override_map.now a.global_map.now a.expression_map.now in
-    judges-accepted s p c.check-v.ensures c.in_default.is c.mark.ensures
+returns c = judges-accepted _ _ c.check.ensures c.in_ok-check.was c.mark.ensures

@@ -1,12 +1,8 @@
 -- The loop carries the counts, the leading types, and that all records so far are good.
 -- Assumes nothing.
-use Prim.Native.Nat.{◌-◌, ◌≤◌}
 use Rattle.arena.specs.Lent.{areas_in}
 use Rattle.faults.proofs.AtOnce.{Walked}
 use Rattle.faults.proofs.at_once.arena_passes.Given as goal
 
 abbrev pub invariant-loop-i : goal.invariant-loop-i
-invariant-loop-i l = (l.i ≤ l.n) × Walked (areas_in l.m) l.area l.i l.sum l.before
-
-abbrev pub decreases-loop-i : goal.decreases-loop-i
-decreases-loop-i l = l.n - l.i
+invariant-loop-i l = Walked (areas_in l.m.areas) l.area l.i l.sum l.before

@@ -8,7 +8,6 @@ use native.Mathlib.Omega.{arith}
 use Rattle.definitions.specs.Areas.{Areas, numbered}
 use Rattle.arena.specs.Lent.{areas_in}
 use Rattle.faults.specs.Checking.{Passed, Used}
-use Rattle.faults.proofs.Arenas.{sizes-are}
 use Rattle.faults.proofs.AtOnce.{not-both, no-fault}
 use Rattle.faults.proofs.at_once.passes.Invariants.{Arenas}
 use Rattle.faults.proofs.at_once.passes.Goals as goal
@@ -23,23 +22,11 @@ more s n f h a l = elim (ℕ_discrete a n) [
 pub loop-area-init : goal.loop-area-init
 loop-area-init c = λ a l. absurd (not-suc-le-zero l)
 
-pub arena_passes-requires : goal.arena_passes-requires
-arena_passes-requires c = record {
-  area_bound = c.loop-area-test.true;
-  measured = (c.requires, sizes-are (areas_in c.args.m.now) c.requires c.of-z.ensures);
-}
-
 pub returns-then-not-arena_passes : goal.returns-then-not-arena_passes
 returns-then-not-arena_passes c e = absurd (not-both e)
 
-pub overflow_add-area : goal.overflow_add-area
-overflow_add-area c = omega arith
-
 pub loop-area-preserved : goal.loop-area-preserved
-loop-area-preserved c = more (areas_in c.args.m.now) c.loop-area.area c.loop-area.invariant (c.arena_passes.ensures c.if-not-arena_passes.false)
-
-pub mentions_pass-requires : goal.mentions_pass-requires
-mentions_pass-requires c = (c.requires, sizes-are (areas_in c.args.m.now) c.requires c.of-z.ensures)
+loop-area-preserved c = more (areas_in c.args.m.now.areas) c.loop-area.area c.loop-area.invariant (c.arena_passes.ensures c.if-not-arena_passes.false)
 
 pub returns : goal.returns
-returns c e = no-fault (areas_in c.args.m.now) (λ a l. c.loop-area.invariant a (omega arith)) (c.mentions_pass.ensures e)
+returns c e = no-fault (areas_in c.args.m.now.areas) (λ a l. c.loop-area.invariant a (omega arith)) (c.mentions_pass.ensures e)

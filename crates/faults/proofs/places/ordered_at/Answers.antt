@@ -9,17 +9,17 @@ use Rattle.faults.proofs.places.ordered_at.Goals as goal
 pub returns-then-not-record_keeps : goal.returns-then-not-record_keeps
 returns-then-not-record_keeps c =
     let a = c.args in
-    let s = areas_in a.m.now in
+    let s = areas_in a.m.now.areas in
     let q =
-    ordered-record s a.i c.requires.measured.0.whole a.area a.before a.z.types (ap (λ z. z.types) c.requires.measured.1)
-    c.requires.area_value _ c.bounds-b.ensures in
+    ordered-record s a.i c.args.m.now.measured.whole a.area a.before a.m.now.sizes.types (ap (λ z. z.types) c.args.m.now.exact)
+    c.requires _ c.bounds-b.ensures in
     words-fail s (numbered a.area) a.i _ _ q c.record_keeps.ensures c.if-not-record_keeps.true
 
 pub returns : goal.returns
 returns c =
     let a = c.args in
-    let s = areas_in a.m.now in
+    let s = areas_in a.m.now.areas in
     let q =
-    ordered-record s a.i c.requires.measured.0.whole a.area a.before a.z.types (ap (λ z. z.types) c.requires.measured.1)
-    c.requires.area_value _ c.bounds-b.ensures in
+    ordered-record s a.i c.args.m.now.measured.whole a.area a.before a.m.now.sizes.types (ap (λ z. z.types) c.args.m.now.exact)
+    c.requires _ c.bounds-b.ensures in
     run-decides s (numbered a.area) a.i _ _ q c.record_keeps.ensures c.if-not-record_keeps.false c.run_at.ensures c.all_below.ensures

@@ -16,6 +16,6 @@ pub returns : goal.returns
 returns c =
     let a = numbered c.args.area in
     c.record_keeps.ensures
-    ∙ shaped-record (areas_in c.args.m.now) a c.args.i c.requires.measured _ c.requires.sum_value
-    (record-span (areas_in c.args.m.now) a c.args.i c.arena_words-ws.ensures c.arena_width.ensures c.span.ensures)
+    ∙ shaped-record (areas_in c.args.m.now.areas) a c.args.i c.args.m.now.measured _ c.requires
+    (record-span (areas_in c.args.m.now.areas) a c.args.i c.arena_words-ws.ensures c.arena_width.ensures c.span.ensures)
     (ap length c.arena_pool.ensures)

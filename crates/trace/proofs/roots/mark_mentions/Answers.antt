@@ -10,7 +10,6 @@ use Rattle.definitions.specs.Roots.{mention}
 use Rattle.arena.specs.Lent.{areas_in}
 use Rattle.trace.proofs.Behind.{marked-as, marked_turn, marked-done}
 use Rattle.trace.proofs.Counting.{count_turn, count-done}
-use borrow.Author.Rules.{rules}
 use Rattle.trace.proofs.roots.mark_mentions.Invariants.{from}
 use Rattle.trace.proofs.roots.mark_mentions.Goals as goal
 
@@ -24,18 +23,13 @@ module _ (s : Areas) (n i : ℕ) where
   done : n ≤ i → from s n i ≡ []
   done l = ap (map (mention s)) (count-done i n l)
 
-pub loop-i-init : goal.loop-i-init
-loop-i-init c = (search rules, λ u p. p)
-
 pub loop-i-preserved : goal.loop-i-preserved
 loop-i-preserved c =
     let a = c.args in
     let s = areas_in a.m.now in
     let l = c.loop-i in
-    let x = turn s a.n l.i c.loop-i-test.true c.element.ensures c.arena_at.ensures c.area-area.ensures c.handle-h.ensures in (
-      search rules,
-      marked_turn s a.b _ (from s a.n l.i) (_ ∷ []) (from s a.n (l.i + 1)) x c.mark.ensures l.invariant.1,
-    )
+    let x = turn s a.n l.i c.loop-i-test.true c.element.ensures c.arena_at.ensures c.area-area.ensures c.handle-h.ensures in
+    marked_turn s a.b _ (from s a.n l.i) (_ ∷ []) (from s a.n (l.i + 1)) x c.mark.ensures l.invariant
 
 pub returns : goal.returns
 returns c =
@@ -43,4 +37,4 @@ returns c =
     let s = areas_in a.m.now in
     let l = c.loop-i in
     marked-as s a.b (ap (λ m. map (mention s) (count_up 0 m)) (sym (sub-zero a.n)))
-    (marked-done s a.b _ _ (done s a.n l.i c.loop-i-test.false) l.invariant.1)
+    (marked-done s a.b _ _ (done s a.n l.i c.loop-i-test.false) l.invariant)

@@ -1,7 +1,7 @@
 -- The loop's invariant: what the mentions from i on name is left to mark.
 -- Assumes nothing.
 use mathlib.Core.List.{List, map}
-use Prim.Native.Nat.{ℕ, ◌-◌, ◌≤◌}
+use Prim.Native.Nat.{ℕ, ◌-◌}
 use Rattle.definitions.specs.Lists.{count_up}
 use Rattle.definitions.specs.Areas.{Areas, Elem}
 use Rattle.definitions.specs.Roots.{mention}
@@ -17,7 +17,4 @@ from s n i = map (mention s) (count_up i (n - i))
 abbrev pub invariant-loop-i : goal.invariant-loop-i
 invariant-loop-i l =
     let s = areas_in l.m in
-    (l.i ≤ l.n) × Left (bits_of s l.b (from s l.n 0)) l.initial.marks (bits_of s l.b (from s l.n l.i)) l.marks
-
-abbrev pub decreases-loop-i : goal.decreases-loop-i
-decreases-loop-i l = l.n - l.i
+    Left (bits_of s l.b (from s l.n 0)) l.initial.marks (bits_of s l.b (from s l.n l.i)) l.marks

@@ -13,7 +13,6 @@ use Rattle.trace.specs.Bits.{bits_of, Marked, root_in, those_in}
 use Rattle.trace.proofs.Sets.{Left}
 use Rattle.trace.proofs.Behind.{marked-as, marked-none, marked_turn, marked-done}
 use Rattle.trace.proofs.Counting.{count_turn, count-done}
-use borrow.Author.Rules.{rules}
 use Rattle.trace.proofs.roots.mark_those.Invariants.{from}
 use Rattle.trace.proofs.roots.mark_those.Goals as goal
 use Rattle.trace.proofs.roots.mark_those.Goals.{then-is_root, else-is_root}
@@ -44,9 +43,6 @@ module _ (s : Areas) (a : Arena) (n i : ℕ) where
         subst (Left all v (bits_of s b (from s a n (i + 1)))) (sym z)
         (marked_turn s b all (from s a n i) [] (from s a n (i + 1)) (turn false l (sym e ∙ q)) (marked-none s b w) left)
 
-pub loop-i-init : goal.loop-i-init
-loop-i-init c = (search rules, λ u p. p)
-
 pub loop-i-preserved : goal.loop-i-preserved
 loop-i-preserved c =
     let a = c.args in
@@ -55,15 +51,13 @@ loop-i-preserved c =
     let g = numbered a.area in
     let all = bits_of s a.b (from s g a.n 0) in
     let t = c.loop-i-test.true in
-    let r = c.is_root.ensures in (
-      search rules,
-      elim c.if-is_root.branch [
-        | then-is_root w ↦
-            marked s g a.n l.i a.b all t r l.invariant.1 w.if-is_root.true
-            (w.element.ensures ∙ ap (λ g. at g l.i) w.arena_at.ensures) w.mark.ensures w.marks-is
-        | else-is_root w ↦ passed s g a.n l.i a.b all t r l.invariant.1 w.if-is_root.false w.marks-is
-      ],
-    )
+    let r = c.is_root.ensures in
+    elim c.if-is_root.branch [
+      | then-is_root w ↦
+          marked s g a.n l.i a.b all t r l.invariant w.if-is_root.true
+          (w.element.ensures ∙ ap (λ g. at g l.i) w.arena_at.ensures) w.mark.ensures w.marks-is
+      | else-is_root w ↦ passed s g a.n l.i a.b all t r l.invariant w.if-is_root.false w.marks-is
+    ]
 
 pub returns : goal.returns
 unfolding those_in
@@ -73,4 +67,4 @@ returns c =
     let l = c.loop-i in
     let g = numbered a.area in
     marked-as s a.b (ap (λ m. map (at g) (select (root_in s g) (count_up 0 m))) (sym (sub-zero a.n)))
-    (marked-done s a.b _ _ (done s g a.n l.i c.loop-i-test.false) l.invariant.1)
+    (marked-done s a.b _ _ (done s g a.n l.i c.loop-i-test.false) l.invariant)

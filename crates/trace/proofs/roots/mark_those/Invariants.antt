@@ -1,7 +1,7 @@
 -- The loop's invariant: the roots from i on are left to mark.
 -- Assumes nothing.
 use mathlib.Core.List.{List, map}
-use Prim.Native.Nat.{ℕ, ◌-◌, ◌≤◌}
+use Prim.Native.Nat.{ℕ, ◌-◌}
 use Rattle.definitions.specs.Lists.{count_up, select}
 use Rattle.definitions.specs.Areas.{Areas, Arena, Elem, at, numbered}
 use Rattle.arena.specs.Lent.{areas_in}
@@ -16,7 +16,4 @@ from s a n i = map (at a) (select (root_in s a) (count_up i (n - i)))
 abbrev pub invariant-loop-i : goal.invariant-loop-i
 invariant-loop-i l =
     let s = areas_in l.m in
-    (l.i ≤ l.n) × Left (bits_of s l.b (from s (numbered l.area) l.n 0)) l.initial.marks (bits_of s l.b (from s (numbered l.area) l.n l.i)) l.marks
-
-abbrev pub decreases-loop-i : goal.decreases-loop-i
-decreases-loop-i l = l.n - l.i
+    Left (bits_of s l.b (from s (numbered l.area) l.n 0)) l.initial.marks (bits_of s l.b (from s (numbered l.area) l.n l.i)) l.marks

@@ -1,8 +1,0 @@
--- As many N as the definition's width says. Assumes nothing.
-use mathlib.Core.Path.{refl}
-use Rattle.definitions.specs.Areas.{width}
-use Rattle.arena.proofs.records.Override.empty.Goals as goal
-
-pub returns : goal.returns
-unfolding width
-returns c = refl

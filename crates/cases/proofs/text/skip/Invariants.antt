@@ -1,6 +1,0 @@
--- Each turn leaves less of the text.
-use Rattle.std.proofs.Common.{◌-◌, length}
-use Rattle.cases.proofs.text.skip.Given as goal
-
-abbrev pub decreases-loop-at : goal.decreases-loop-at
-decreases-loop-at l = length l.text - l.at

@@ -1,9 +1,0 @@
--- The place is within the text; each turn is nearer to its end.
-use Rattle.std.proofs.Common.{◌≤◌, ◌-◌, length}
-use Rattle.verdicts.proofs.find.Given as goal
-
-abbrev pub invariant-loop-i : goal.invariant-loop-i
-invariant-loop-i l = (l.from ≤ l.i) × (l.i ≤ length l.text)
-
-abbrev pub decreases-loop-i : goal.decreases-loop-i
-decreases-loop-i l = length l.text - l.i

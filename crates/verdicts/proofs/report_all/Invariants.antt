@@ -1,6 +1,0 @@
--- Each turn takes a line.
-use Rattle.std.proofs.Common.{◌-◌, length}
-use Rattle.verdicts.proofs.report_all.Given as goal
-
-abbrev pub decreases-loop-at : goal.decreases-loop-at
-decreases-loop-at g l = length l.text - l.at
