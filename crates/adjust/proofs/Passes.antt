@@ -27,7 +27,7 @@ same-words : (new old : Words) (from : ℕ) → drop from new ≡ drop from old 
 same-words new old from e = λ i k. (sym (get_or-drop from new k 0) ∙ ap (λ l. get_or l k 0) e ∙ get_or-drop from old k 0) i
 
 -- a record ends where the next begins, and within the words
-next-at : (h w : ℕ) → (h + 1) * w ≡ h * w + w
+pub next-at : (h w : ℕ) → (h + 1) * w ≡ h * w + w
 next-at h w = ap (λ k. k * w) (add-one h) ∙ suc-mul h w
 
 pub within : (h w len : ℕ) → h < len / w → h * w + w ≤ len

@@ -4,7 +4,7 @@ use mathlib.Core.Path.{◌≡◌, refl, sym, ap, ap₂, ◌∙◌}
 use mathlib.Core.Bool.{Bool, true, false}
 use mathlib.Core.List.{[], ◌∷◌, ◌++◌, append-nil, append_assoc}
 use Prim.Native.Nat.{ℕ, suc, ◌+◌, ◌-◌, ◌≤◌}
-use native.Mathlib.Nat.{le_refl, add-zero}
+use native.Mathlib.Nat.{add-zero}
 use native.Mathlib.Numerals.{add-one}
 use native.Mathlib.Omega.{arith}
 use lib.ListN.{length, get_or, take, drop, set, replicate, length-append, length-set, length-drop, drop_of_length-le, replicate-append-replicate}
@@ -137,25 +137,30 @@ pub record Freeing (old new : Words) (from at : ℕ) : Type 0 where
   pub same : length new ≡ length old
   pub done : take at new ≡ take from old ++ replicate (at - from) N
 
-pub freeing : (old : Words) (from : ℕ) → from ≤ length old → Freeing old old from from
-freeing old from h =
-    let none : from - from ≡ 0 = omega arith in
-    record { low = le_refl from; high = h; same = refl; done = sym (ap (λ n. take from old ++ replicate n N) none ∙ append-nil (take from old)) }
+pub freeing : (old : Words) (from at : ℕ) → from ≤ length old → at ≡ from → Freeing old old from at
+freeing old from at h e =
+    let none : at - from ≡ 0 = omega arith in
+    record {
+      low = omega arith;
+      high = omega arith;
+      same = refl;
+      done = ap (λ k. take k old) e ∙ sym (ap (λ n. take from old ++ replicate n N) none ∙ append-nil (take from old));
+    }
 
 more-none : (l : Words) (a b k : ℕ) → k ≡ a + b → (l ++ replicate a N) ++ replicate b N ≡ l ++ replicate k N
 more-none l a b k e = append_assoc l (replicate a N) (replicate b N) ∙ ap (λ r. l ++ r) (replicate-append-replicate a b N ∙ ap (λ n. replicate n N) (sym e))
 
-pub one-freed : (old new empty : Words) (from at : ℕ) {new' : Words} → Freeing old new from at → Empty empty → length empty ≤ length new - at → new' ≡ sets new at empty
-    → Freeing old new' from (at + length empty)
-one-freed old new empty from at f e l q =
-    let room : at + length empty ≤ length new = omega (arith, f.high, f.same) in
+pub one-freed : (old new empty : Words) (from at next : ℕ) {new' : Words} → Freeing old new from at → Empty empty → next ≡ at + length empty → next ≤ length new
+    → new' ≡ sets new at empty → Freeing old new' from next
+one-freed old new empty from at next {new'} f e n l q =
+    let room : at + length empty ≤ length new = omega arith in
     record {
       low = omega (arith, f.low);
-      high = omega (arith, room, f.same);
+      high = omega (arith, f.same);
       same = ap length q ∙ length-sets new at empty ∙ f.same;
       done =
-          ap (take (at + length empty)) q ∙ take-sets new at empty room ∙ ap₂ ◌++◌ f.done e.all_none
-          ∙ more-none (take from old) (at - from) (length empty) (at + length empty - from) (omega (arith, f.low));
+          ap (λ k. take k new') n ∙ ap (take (at + length empty)) q ∙ take-sets new at empty room ∙ ap₂ ◌++◌ f.done e.all_none
+          ∙ more-none (take from old) (at - from) (length empty) (next - from) (omega (arith, f.low));
     }
 
 pub all-freed : (old new last : Words) (from at : ℕ) → Freeing old new from at → last ≡ freed_from at new → last ≡ freed_from from old

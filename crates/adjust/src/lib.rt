@@ -1,7 +1,7 @@
 // Rewriting by the maps: records, pools and mentions in place, what was kept closed up, then N to the old end.
 #![tactic(auto)]
 
-ghost use Rattle.std.specs.Prelude.{◌≡◌, ◌∷◌, map, ◌+◌, ◌^◌, ◌≤◌, ◌<◌, length, take, drop, replicate};
+ghost use Rattle.std.specs.Prelude.{◌≡◌, ◌∷◌, map, ◌+◌, ◌^◌, ◌≤◌, ◌<◌, length, take, drop};
 ghost use Rattle.std.proofs.lemmas.List.Edits.{sets};
 ghost use Rattle.definitions.specs.Areas.{N, numbered, width};
 ghost use Rattle.definitions.specs.Slots.{body, tail, slots, carried};
@@ -169,18 +169,18 @@ fn adjust_kept(area: u32, ws: &mut [u32], shift: Shift, wide: usize, start: u32,
 }
 
 // An empty record again and again from a place on, as long as it fits, then N to the end.
-// By places: of parts written through `chunks_exact_mut` a proof knows the lengths alone.
+// By numbers: of parts written through `chunks_exact_mut` a proof knows the lengths alone.
 fn free(ws: &mut [u32], from: usize, empty: &[u32])
     requires { (from ≤ length ws.old) × Empty empty.now }
     ensures { ws.new ≡ freed_from from ws.old }
 {
     let width = empty.len();
-    let mut at = from;
-    while width <= ws.len() - at {
+    let n = (ws.len() - from) / width;
+    for h in 0..n {
+        let at = from + h * width;
         ws[at..at + width].copy_from_slice(empty);
-        at += width;
     }
-    ws[at..].fill(N);
+    ws[from + n * width..].fill(N);
 }
 
 // The records of an area from a place on are freed: each is the area's empty record.

@@ -6,6 +6,9 @@ use Prim.Native.Nat.{ℕ}
 use native.Mathlib.Decide.{ℕ_discrete}
 use Rattle.arena.specs.declared.TypeHandle.{TypeHandle}
 use Rattle.arena.specs.declared.ExpressionHandle.{ExpressionHandle}
+use Rattle.arena.specs.declared.GlobalHandle.{GlobalHandle}
+use Rattle.arena.specs.declared.OverrideHandle.{OverrideHandle}
+use Rattle.arena.specs.declared.ConstantHandle.{ConstantHandle}
 use Rattle.arena.specs.HandleSet.{member, Inserted, Cleared}
 use Rattle.arena.proofs.Sets.{Fit, words-equal}
 
@@ -21,6 +24,16 @@ type-once p q = λ i. record { 0 = (p ∙ sym q) i }
 -- and `init`
 pub expression-once : {v : ℕ} {r r' : ExpressionHandle} → r.0 ≡ v → r'.0 ≡ v → r ≡ r'
 expression-once p q = λ i. record { 0 = (p ∙ sym q) i }
+
+-- and the other handles, which `Record::handle` makes
+pub constant-once : {v : ℕ} {r r' : ConstantHandle} → r.0 ≡ v → r'.0 ≡ v → r ≡ r'
+constant-once p q = λ i. record { 0 = (p ∙ sym q) i }
+
+pub override-once : {v : ℕ} {r r' : OverrideHandle} → r.0 ≡ v → r'.0 ≡ v → r ≡ r'
+override-once p q = λ i. record { 0 = (p ∙ sym q) i }
+
+pub global-once : {v : ℕ} {r r' : GlobalHandle} → r.0 ≡ v → r'.0 ≡ v → r ≡ r'
+global-once p q = λ i. record { 0 = (p ∙ sym q) i }
 
 -- `insert`, `insert_bit`
 pub inserted-once : {vs ws ws' : List ℕ} {i : ℕ} → Fit ws → Fit ws' → Inserted vs i ws → Inserted vs i ws' → ws ≡ ws'

@@ -1,4 +1,5 @@
 // The areas by their numbers: five arenas, two pools, the mentions.
+// No enum: functions over them promise their answer for every number.
 pub const TYPES: u32 = 0;
 
 pub const CONSTANTS: u32 = 1;

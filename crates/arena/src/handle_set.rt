@@ -15,6 +15,7 @@ pub const MARKS: usize = (Type::LIMIT
     / 64;
 
 // Where the bits of each arena begin, those of types beginning at 0, and where the last arena's end.
+// Handed on beside the words: who lends a struct of both does not learn that it holds the same words afterwards.
 #[derive(Clone, Copy)]
 pub struct Bases {
     pub constants: u32,
@@ -62,20 +63,19 @@ pub fn bit(b: Bases, x: Element) -> usize
     }
 }
 
-// Is bit i set ? None is past the words' end.
-pub fn contains_bit(marks: &[u64], i: usize) -> bool
-    ensures { result ≡ member marks.now i }
-{
-    let word = marks.get(i / 64).copied().unwrap_or(0);
-    (word >> (i % 64)) % 2 == 1
-}
-
 // 1 where bit i is set, else 0. The remainder itself is answered, so that a loop over the bits needs no branch on them.
 pub fn bit_at(marks: &[u64], i: usize) -> u32
     ensures { result ≡ cond (member marks.now i) 1 0 }
 {
     let word = marks.get(i / 64).copied().unwrap_or(0);
     ((word >> (i % 64)) % 2) as u32
+}
+
+// Is bit i set ? None is past the words' end.
+pub fn contains_bit(marks: &[u64], i: usize) -> bool
+    ensures { result ≡ member marks.now i }
+{
+    bit_at(marks, i) == 1
 }
 
 // Sets bit i; past the words' end nothing changes.

@@ -15,11 +15,12 @@ pub use areas::{
 };
 pub use records::{
     Constant, Expression, Global, Mention, N, Override, Record, SPAN_LENGTH, SPAN_START, TAG, TAIL,
-    Type, capped, length, limit, width,
+    Type, capped, least, length, limit, width,
 };
 pub use sizes::Sizes;
 
 // A record's place in its area: a kind of handle for each arena, so that none stands where another is wanted.
+// Five structs, the form that document 01 asks for.
 #[derive(Clone, Copy)]
 pub struct TypeHandle(pub u32);
 

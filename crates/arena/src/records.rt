@@ -72,6 +72,7 @@ pub fn limit(area: usize) -> usize
 }
 
 // The length in words of an area, by its number; 0 past the last.
+// By a test: of the slice that `get` finds in an array of slices the proof did not close.
 pub fn length(m: &Module, area: usize) -> usize
     ensures { result ≡ length_of (areas_in m.now) area }
 {
@@ -79,6 +80,13 @@ pub fn length(m: &Module, area: usize) -> usize
         return m[area].len();
     }
     0
+}
+
+// The smaller of two.
+pub fn least(a: usize, b: usize) -> usize
+    ensures { result ≡ min a b }
+{
+    a.min(b)
 }
 
 // A sum of words, as far as a word goes.
@@ -99,8 +107,10 @@ fn word(area: &[u32], i: usize) -> u32
 pub trait Record {
     type Handle;
 
+    // Whose records they are.
     ghost arena: { Arena };
 
+    // A handle's word, and a record's width, as clauses have them.
     ghost index: { Self.Handle → ℕ };
 
     ghost WIDTH: { ℕ };
@@ -111,6 +121,7 @@ pub trait Record {
     fn handle(word: u32) -> Self::Handle
         ensures { index result ≡ word };
 
+    // The element of a handle.
     fn element(h: Self::Handle) -> Element
         ensures { element_of result ≡ at arena (index h) };
 
@@ -132,6 +143,7 @@ pub trait Record {
         Self::words(m).len() / Self::WIDTH
     }
 
+    // The width is the definition's.
     ghost is_wide: { WIDTH ≡ width arena };
 }
 
@@ -186,6 +198,7 @@ impl Type {
 
     pub const B: usize = 3;
 
+    // Each kind has its own, the form that document 01 asks for.
     pub fn empty() -> [u32; Type::WIDTH]
         ensures { result ≡ replicate (width Arena.types) N }
     {
@@ -270,6 +283,7 @@ impl Constant {
         record_word::<Constant>(m, h, Constant::NAMED)
     }
 
+    // A line for each kind that has a type, and so for inits: a trait over the three is longer.
     pub fn ty(m: &Module, h: ConstantHandle) -> TypeHandle
         ensures { result.0 ≡ word (areas_in m.now) Arena.constants h.0 1 }
     {

@@ -59,17 +59,6 @@ pub extern "C" fn cadnohal_abi() -> u32
     ABI
 }
 
-// 0 is `KeepUnused::No`, any other word is Yes.
-fn keep_from(word: u32) -> KeepUnused
-    ensures { keep_of result ≡ keep_word word }
-{
-    if word == 0 {
-        KeepUnused::No
-    } else {
-        KeepUnused::Yes
-    }
-}
-
 // A refusal, with counts 0.
 impl From<Fault> for Answer {
     ghost from_gives = { λ f a. a ≡ refused f };
@@ -142,7 +131,8 @@ pub extern "C" fn cadnohal_compact(
             globals: global_map,
             expressions: expression_map,
         },
-        keep_from(keep_unused),
+        // 0 is `KeepUnused::No`, any other word is Yes.
+        KeepUnused::from(keep_unused != 0),
     );
     match r {
         Ok(n) => Answer::from(n),

@@ -30,11 +30,7 @@ const TEXT: usize = 8192;
 
 // Reads the rest of a case, compacts it and writes what came of it. A case that stops is neither compacted nor written.
 fn run(rt: &impl Print, case: u32, reader: &mut Reader) -> Result<io::Result<()>, Stop> {
-    let keep_unused = if reader.flag()? {
-        KeepUnused::Yes
-    } else {
-        KeepUnused::No
-    };
+    let keep_unused = KeepUnused::from(reader.flag()?);
     let shown = reader.flag()?;
     let mut types = [0; ROOM * Type::WIDTH];
     let types = reader.words(&mut types)?;
@@ -157,6 +153,7 @@ fn run_all(rt: &impl Print, text: &[u8]) -> io::Result<()> {
 }
 
 // Reads until the text is full or the input ends, and says how many bytes it put there.
+// By hand: the library reads to an input's end on the heap alone.
 fn read_full<R: io::Read>(input: &mut R, text: &mut [u8]) -> io::Result<usize>
     ensures { IfOk result (λ n. n ≤ size text.new) }
 {

@@ -1,4 +1,5 @@
 // What the program writes.
+use arena::N;
 use compact::{Counts, Fault};
 use std::io;
 
@@ -19,9 +20,9 @@ pub fn answer(rt: &impl Print, case: u32, r: Result<Counts, Fault>) -> io::Resul
     }
 }
 
-// The word, after a space.
+// The word; `N` where it is no handle.
 fn put(rt: &impl Print, w: u32) -> io::Result<()> {
-    if w == 4294967295 {
+    if w == N {
         rt.write_all(b"N")
     } else {
         rt.print(w)

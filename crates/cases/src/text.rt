@@ -1,4 +1,5 @@
 // Numbers out of text, one after the other.
+use arena::N;
 use std::fmt;
 
 // Why reading stops: the text ended, something else than a number stands there, or there are more words than there is room for.
@@ -57,7 +58,7 @@ impl<'a> Reader<'a> {
     fn single(&mut self) -> Result<u32, Stop> {
         if let [b'N', rest @ ..] = self.rest {
             self.rest = rest;
-            return Ok(4294967295);
+            return Ok(N);
         }
         let n = self.rest.iter().take_while(|b| b.is_ascii_digit()).count();
         let (digits, rest) = self.rest.split_at(n);

@@ -5,6 +5,7 @@ mod judge;
 mod number;
 mod rewrite;
 
+ghost use Rattle.std.specs.Prelude.{◌≡◌};
 ghost use Rattle.arena.specs.Lent.{areas_within, areas_back, maps_within, maps_back};
 ghost use Rattle.compact.specs.Answer.{keep_of, Compacts};
 
@@ -17,6 +18,18 @@ pub use faults::Fault;
 pub enum KeepUnused {
     No,
     Yes,
+}
+
+impl From<bool> for KeepUnused {
+    ghost from_gives = { λ keep k. keep_of k ≡ keep };
+
+    fn from(keep: bool) -> KeepUnused {
+        if keep {
+            KeepUnused::Yes
+        } else {
+            KeepUnused::No
+        }
+    }
 }
 
 // How many records of areas 0 to 6 were kept.

@@ -28,6 +28,7 @@ impl Number {
 }
 
 // How many areas the number looks at: only arenas have maps.
+#[tactic(auto, unfolding(crate::specs::Checking::areas_at))]
 fn areas_at(number: Number) -> usize
     ensures { result ≡ areas_at (by_lengths number) }
 {
@@ -38,6 +39,7 @@ fn areas_at(number: Number) -> usize
 }
 
 // Is the area good under the number ?
+#[tactic(auto, unfolding(crate::specs::Checking::areas_at, crate::specs::Checking::area_ok, definitions::specs::Areas::records_of, definitions::specs::Areas::widths, definitions::specs::Areas::width))]
 fn fine(number: Number, area: usize, maps: &[usize; ARENAS as usize], m: &Module) -> bool
     requires { area < areas_at (by_lengths number) }
     ensures { result ≡ area_ok (areas_in m.now) maps.now (by_lengths number) area }
@@ -52,6 +54,7 @@ fn fine(number: Number, area: usize, maps: &[usize; ARENAS as usize], m: &Module
 }
 
 // The first area that is at fault under the number.
+#[tactic(auto, using(crate::proofs::Scans::scans), unfolding(definitions::specs::Refusals::scan_areas, crate::specs::Checking::areas_at))]
 pub fn first(number: Number, maps: &[usize; ARENAS as usize], m: &Module) -> Result<(), Fault>
     ensures { verdict_of result ≡ scan_areas (by_lengths number)
         (area_ok (areas_in m.now) maps.now (by_lengths number)) (areas_at (by_lengths number)) }

@@ -15,31 +15,25 @@ use arena::{ARENAS, EXPRESSIONS, Mention, Module, Sizes, TYPES};
 use rules::{Limits, Run};
 
 // The limits of record i of an area; `before` types have dep below expression i.
+#[tactic(auto, unfolding(crate::specs::Checking::limits_at))]
 fn limits(area: u32, i: u32, before: u32, z: Sizes, run: Run) -> Limits
     ensures { result ≡ limits_at area i before z run }
 {
+    let all = Limits {
+        types: z.types,
+        constants: z.constants,
+        overrides: z.overrides,
+        expressions: z.expressions,
+        run,
+    };
     match area {
-        TYPES => Limits {
-            types: i,
-            constants: z.constants,
-            overrides: z.overrides,
-            expressions: z.expressions,
-            run,
-        },
+        TYPES => Limits { types: i, ..all },
         EXPRESSIONS => Limits {
             types: before,
-            constants: z.constants,
-            overrides: z.overrides,
             expressions: i,
-            run,
+            ..all
         },
-        _ => Limits {
-            types: z.types,
-            constants: z.constants,
-            overrides: z.overrides,
-            expressions: z.expressions,
-            run,
-        },
+        _ => all,
     }
 }
 
@@ -54,6 +48,7 @@ fn leads(area: u32, i: u32, before: u32, n: u32, m: &Module) -> u32
 }
 
 // Are the words of record i good within the limits, and its run below i ?
+#[tactic(auto, unfolding(slots::specs::Codes::run_in, definitions::specs::Lists::all))]
 fn record_passes(
     l: Limits,
     area: u32,
@@ -78,6 +73,7 @@ fn record_passes(
 }
 
 // Do all records of an arena pass, and do their runs use up its pool ?
+#[tactic(auto, using(crate::proofs::Reading::reading, crate::proofs::Carries::carries, rules::proofs::Steps::runs_none, rules::proofs::Laws::size_in_lem, crate::proofs::AtOnce::passed), unfolding(crate::specs::Checking::limits_at, crate::specs::Checking::carried_at))]
 fn arena_passes(area: u32, m: &Counted) -> bool
     requires { area < 5 }
     ensures { result ≡ true → Passed (areas_in m.now.areas) area × Used (areas_in m.now.areas) (numbered area) }
@@ -102,6 +98,7 @@ fn arena_passes(area: u32, m: &Counted) -> bool
 }
 
 // Do all mentions pass ?
+#[tactic(auto, using(rules::proofs::Laws::size_in_lem), unfolding(crate::proofs::Opened::places))]
 fn mentions_pass(m: &Counted) -> bool
     ensures { result ≡ true → Passed (areas_in m.now.areas) 7 }
 {

@@ -16,6 +16,7 @@ pub struct Counted<'a> {
 }
 
 impl<'a> Counted<'a> {
+    #[tactic(auto, using(crate::proofs::Arenas::sizes_fit), unfolding(arena::specs::Sizes::counted_in))]
     pub fn of(m: &Module<'a>) -> Counted<'a>
         requires { Measured (areas_in m.now) }
         ensures { result.areas ≡ m.now }

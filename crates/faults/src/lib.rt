@@ -15,7 +15,7 @@ ghost use Rattle.faults.specs.Checking.{report_of};
 use arena::{ARENAS, Module, ModuleMap};
 use counted::Counted;
 
-// Where a module breaks which rule.
+// Where a module breaks which rule, by document 01's numbers.
 #[derive(Clone, Copy, Debug, PartialEq, Eq)]
 pub struct Fault {
     pub number: u32,
@@ -25,6 +25,7 @@ pub struct Fault {
 
 // The verdict on a module and the lengths of its maps: the numbers in turn, the first fault wins.
 // A good module is told by one walk over it.
+#[tactic(auto, using(crate::proofs::Numbers::judged), unfolding(crate::proofs::Numbers::checks))]
 fn judge(maps: &[usize; ARENAS as usize], m: &Module) -> Result<(), Fault>
     ensures { report_of result ≡ reported (check (areas_in m.now) maps.now) }
 {
@@ -42,6 +43,7 @@ fn judge(maps: &[usize; ARENAS as usize], m: &Module) -> Result<(), Fault>
 }
 
 // The verdict on eight areas and five maps of any words.
+#[tactic(auto, unfolding(definitions::specs::Outcome::lengths))]
 pub fn check(m: &Module, maps: &ModuleMap) -> Result<(), Fault>
     ensures { report_of result ≡ reported (check (areas_in m.now) (lengths (maps_in maps.now))) }
 {

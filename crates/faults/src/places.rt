@@ -45,6 +45,7 @@ impl Number {
 }
 
 // Does the number look at the records of the arena ? Scoped at expressions alone, Ordered at types and expressions.
+#[tactic(auto, unfolding(crate::specs::Checking::looks_at))]
 fn looks_at(number: Number, area: u32) -> bool
     ensures { result ≡ looks_at (by_places number) area }
 {
@@ -56,6 +57,7 @@ fn looks_at(number: Number, area: u32) -> bool
 }
 
 // How many places an area has under a number: its records, a pool one; 0 where the number doesn't look.
+#[tactic(auto, unfolding(crate::proofs::Opened::places))]
 fn places(number: Number, area: u32, m: &Counted) -> u32
     ensures { result ≡ places_at (areas_in m.now.areas) (by_places number) area }
 {
@@ -93,6 +95,7 @@ pub fn run_sum(a: usize, b: u32) -> usize
 }
 
 // What is carried to record i of an area from the record before it.
+#[tactic(auto, using(crate::proofs::Reading::reading, crate::proofs::Carries::carries, rules::proofs::Steps::runs_none), unfolding(crate::specs::Checking::carried_at))]
 fn carry(number: Number, area: u32, i: u32, before: Carried, m: &Counted) -> Carried
     requires { before ≡ carried_to (areas_in m.now.areas) (by_places number) area i }
     ensures { result ≡ carried_at (areas_in m.now.areas) (by_places number) area i }
@@ -126,6 +129,7 @@ fn carry(number: Number, area: u32, i: u32, before: Carried, m: &Counted) -> Car
 }
 
 // Is record i of an arena shaped as its kind asks ?
+#[tactic(auto, using(crate::proofs::Reading::reading, crate::proofs::Records::records))]
 fn shaped_at(area: u32, i: u32, sum: usize, m: &Counted) -> bool
     requires { sum ≡ min (runs_before (areas_in m.now.areas) (numbered area) i) most }
     ensures { result ≡ shaped_at (areas_in m.now.areas) (numbered area) i }
@@ -140,6 +144,7 @@ fn shaped_at(area: u32, i: u32, sum: usize, m: &Counted) -> bool
 }
 
 // The run of record i of an arena.
+#[tactic(auto, using(crate::proofs::Reading::reading))]
 fn run_at<'a>(area: u32, i: u32, m: &Module<'a>) -> &'a [u32]
     ensures { result.now ≡ run (areas_in m.now) (numbered area) i }
 {
@@ -152,6 +157,7 @@ fn run_at<'a>(area: u32, i: u32, m: &Module<'a>) -> &'a [u32]
 }
 
 // Are all handles of record i of an arena there ?
+#[tactic(auto, using(crate::proofs::Records::records), unfolding(definitions::specs::Refusals::held_at))]
 fn held_at(area: u32, i: u32, m: &Counted) -> bool
     ensures { result ≡ held_at (areas_in m.now.areas) (numbered area) i }
 {
@@ -180,6 +186,7 @@ fn bounds(area: u32, i: u32, before: u32, types: u32) -> Bounds
 }
 
 // Is type or expression i well ordered ?
+#[tactic(auto, using(crate::proofs::Records::records), unfolding(crate::specs::Checking::bounds_at))]
 fn ordered_at(area: u32, i: u32, before: u32, m: &Counted) -> bool
     requires { area ≡ 0 ⊎ ((area ≡ 4) × (before ≡ leading (areas_in m.now.areas) i 0 m.now.sizes.types)) }
     ensures { result ≡ well_ordered (areas_in m.now.areas) (numbered area) i }
@@ -192,6 +199,7 @@ fn ordered_at(area: u32, i: u32, before: u32, m: &Counted) -> bool
 }
 
 // Is record i of an arena good under a number ?
+#[tactic(auto, unfolding(crate::proofs::Opened::places, crate::specs::Checking::carried_at))]
 fn record_fine(number: Number, area: u32, i: u32, carried: Carried, m: &Counted) -> bool
     requires carried_value { carried ≡ carried_at (areas_in m.now.areas) (by_places number) area i }
     requires area_bound { (area < 5) × (looks_at (by_places number) area ≡ true) }
@@ -209,6 +217,7 @@ fn record_fine(number: Number, area: u32, i: u32, carried: Carried, m: &Counted)
 }
 
 // Is mention i good under a number ?
+#[tactic(auto, using(rules::proofs::Laws::size_in_lem), unfolding(crate::proofs::Opened::places))]
 fn mention_fine(number: Number, i: u32, m: &Counted) -> bool
     requires { (by_places number ≡ 4) ⊎ (by_places number ≡ 6) }
     ensures { result ≡ ok_at (areas_in m.now.areas) (by_places number) 7 i }
@@ -221,6 +230,7 @@ fn mention_fine(number: Number, i: u32, m: &Counted) -> bool
 }
 
 // Is a place good under a number ?
+#[tactic(auto, unfolding(crate::proofs::Opened::places))]
 fn fine(number: Number, area: u32, i: u32, carried: Carried, m: &Counted) -> bool
     requires carried_value { carried ≡ carried_at (areas_in m.now.areas) (by_places number) area i }
     requires area_bound { (area < 8) × (i < places_at (areas_in m.now.areas) (by_places number) area) }
@@ -235,9 +245,11 @@ fn fine(number: Number, area: u32, i: u32, carried: Carried, m: &Counted) -> boo
 }
 
 // The first place that is at fault under a number.
+#[tactic(auto, using(crate::proofs::Scans::scans, crate::proofs::Carries::carries), unfolding(crate::specs::Checking::scan_area, definitions::specs::Refusals::first_of))]
 pub fn first(number: Number, m: &Counted) -> Result<(), Fault>
     ensures { verdict_of result ≡ in_turn (scan_area (areas_in m.now.areas) (by_places number)) 0 8 }
 {
+    // Left by a label with the place as value, the form that document 01 asks for.
     let place = 'areas: {
         for area in 0..AREAS {
             let mut carried = Carried { sum: 0, types: 0 };

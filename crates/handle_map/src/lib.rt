@@ -11,8 +11,6 @@ ghost use Rattle.handle_map.specs.Answers.{number_of, adjusted_of, ranged_of, is
 ghost use Rattle.handle_map.specs.FromSet.{in_set, mapped};
 
 use arena::{N, handle_set};
-use std::error::Error;
-use std::fmt;
 
 // Why there is no new handle.
 #[derive(Clone, Copy, Debug, PartialEq, Eq)]
@@ -32,17 +30,6 @@ impl NoHandle {
         }
     }
 }
-
-impl fmt::Display for NoHandle {
-    fn fmt<W: fmt::Write>(&self, f: &mut fmt::Formatter<W>) -> fmt::Result {
-        f.write_str(match self {
-            NoHandle::PastEnd => "past the map's end",
-            NoHandle::Dropped => "dropped",
-        })
-    }
-}
-
-impl Error for NoHandle {}
 
 // The map's word of a record: N where it is dropped, else the next handle.
 // It compiles to a choice of two values, with no branch.

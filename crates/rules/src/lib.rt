@@ -12,13 +12,13 @@ ghost use Rattle.arena.specs.Lent.{areas_in};
 ghost use Rattle.arena.specs.Sizes.{size_in};
 ghost use Rattle.arena.specs.Elements.{element_of};
 ghost use Rattle.slots.specs.Codes.{decoded, unpacked, words_from, arena_of, slot_of};
-ghost use Rattle.rules.specs.Rules.{shaped_by, held_by, within, asked, empty, fit_by, typed_fits, good_by, leading};
+ghost use Rattle.rules.specs.Rules.{shaped_by, held_by, bounded, within, asked, empty, fit_by, typed_fits, good_by, leading};
 
 use arena::{
     CONSTANTS, Constant, ConstantHandle, Element, ExpressionHandle, GLOBALS, Global, Module, N,
     OVERRIDES, Override, OverrideHandle, Sizes, TAIL, Type, TypeHandle,
 };
-use slots::{Arena, Slot, code};
+use slots::{Arena, Slot, code, kind};
 
 // The counts before a record's run, as far as a word can equal them, its own count, and its pool's length.
 #[derive(Clone, Copy)]
@@ -97,24 +97,18 @@ fn held(z: Sizes, slot: Slot, w: u32) -> bool
     }
 }
 
-#[tactic(auto, unfolding(crate::specs::Rules::within))]
-fn type_within(b: Bounds, t: TypeHandle) -> bool
-    ensures { result ≡ within b (at types t.0) }
+// Is a handle below the bound, if there is one ?
+fn below(bound: Option<u32>, h: u32) -> bool
+    ensures { result ≡ bounded bound h }
 {
-    b.types.is_none_or(|bound| t.0 < bound)
+    bound.is_none_or(|n| h < n)
 }
 
 #[tactic(auto, unfolding(crate::specs::Rules::within))]
-fn expression_within(b: Bounds, e: ExpressionHandle) -> bool
-    ensures { result ≡ within b (at expressions e.0) }
-{
-    b.expressions.is_none_or(|bound| e.0 < bound)
-}
-
 fn init_within(b: Bounds, e: ExpressionHandle) -> bool
     ensures { result ≡ (eqb e.0 N || within b (at expressions e.0)) }
 {
-    e.0 == N || expression_within(b, e)
+    e.0 == N || below(b.expressions, e.0)
 }
 
 // Do an element and all that stands behind it lie within the bounds ?
@@ -123,17 +117,17 @@ fn element_within(b: Bounds, x: Element, m: &Module) -> bool
     ensures { result ≡ all (within b) (with_behind (areas_in m.now) (element_of x ∷ [])) }
 {
     match x {
-        Element::Type(h) => type_within(b, h),
+        Element::Type(h) => below(b.types, h.0),
         Element::Constant(h) => {
-            type_within(b, Constant::ty(m, h)) && expression_within(b, Constant::init(m, h))
+            below(b.types, Constant::ty(m, h).0) && below(b.expressions, Constant::init(m, h).0)
         }
         Element::Override(h) => {
-            type_within(b, Override::ty(m, h)) && init_within(b, Override::init(m, h))
+            below(b.types, Override::ty(m, h).0) && init_within(b, Override::init(m, h))
         }
         Element::Global(h) => {
-            type_within(b, Global::ty(m, h)) && init_within(b, Global::init(m, h))
+            below(b.types, Global::ty(m, h).0) && init_within(b, Global::init(m, h))
         }
-        Element::Expression(h) => expression_within(b, h),
+        Element::Expression(h) => below(b.expressions, h.0),
     }
 }
 
@@ -258,7 +252,7 @@ fn blank(ws: &[u32], at: usize, k: usize, n: usize) -> bool
     true
 }
 
-// Are the first n words of the record that starts at a place good ?
+// Are the first n words of the record that starts at a place good ? Beside `slots_keep`: it makes no `Slot`.
 #[tactic(auto, using(crate::proofs::Every::steps), unfolding(crate::specs::Rules::empty, crate::specs::Rules::good_by))]
 fn slots_good(l: Limits, ws: &[u32], at: usize, shape: u64, n: usize, m: &Module) -> bool
     ensures { result ≡ every (good_by (areas_in m.now) l) (words_from ws.now at) 0 (unpacked shape n) }
@@ -276,7 +270,7 @@ fn slots_good(l: Limits, ws: &[u32], at: usize, shape: u64, n: usize, m: &Module
     true
 }
 
-// The same of those that stand at their places in a record.
+// As `typed_fits`, of the words at their places in a record.
 fn typed_good(l: Limits, ws: &[u32], at: usize, ty: usize, init: usize, must: bool) -> bool
     ensures { result ≡ typed_fits l must (words_from ws.now at ty) (words_from ws.now at init) }
 {
@@ -341,7 +335,7 @@ pub fn pool_used(area: u32, n: u32, m: &Module) -> bool
 pub fn sized(t: TypeHandle, m: &Module) -> usize
     ensures { result ≡ sized_by (areas_in m.now) t.0 }
 {
-    if Type::kind(m, t) != 2 {
+    if Type::kind(m, t) != kind::SIZED_ARRAY {
         return 0;
     }
     match Override::init(m, OverrideHandle(Type::b(m, t))).0 {

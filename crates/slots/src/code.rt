@@ -1,4 +1,5 @@
 // What a shape holds: a code of four bits for each word of a body, the first word's lowest; 0 for an unused word.
+// Numbers, as a shape packs them; the enum for them is `Slot`.
 use arena::{Expression, TAIL};
 
 pub const BITS: usize = 4;

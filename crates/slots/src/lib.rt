@@ -2,6 +2,7 @@
 #![tactic(auto)]
 
 pub mod code;
+pub mod kind;
 mod shapes;
 
 ghost use Rattle.std.specs.Prelude.{◌≡◌, ◌+◌, ◌%◌, get_or};
@@ -54,6 +55,7 @@ pub fn element(arena: Arena, h: u32) -> Element
 }
 
 // Word k of the record that starts at a place; 0 past the end.
+// By words and place, as the other readers: a place past the end has its answer too.
 pub fn word(ws: &[u32], at: usize, k: usize) -> u32
     ensures { result ≡ get_or ws.now (at + k) 0 }
 {
@@ -88,8 +90,8 @@ fn form(ws: &[u32], at: usize) -> u32
     ensures { result ≡ form_of (words_from ws.now at) }
 {
     match word(ws, at, Expression::KIND) {
-        15 => word(ws, at, shapes::LEVEL_FORM),
-        17 => word(ws, at, shapes::QUERY_FORM),
+        kind::IMAGE_SAMPLE => word(ws, at, shapes::LEVEL_FORM),
+        kind::IMAGE_QUERY => word(ws, at, shapes::QUERY_FORM),
         _ => 0,
     }
 }
@@ -114,8 +116,10 @@ pub fn span(area: u32, ws: &[u32], at: usize) -> u32
     ensures { result ≡ span_in (numbered area) (words_from ws.now at) }
 {
     match area {
-        TYPES if word(ws, at, Type::KIND) == 3 => word(ws, at, shapes::RUN_COUNT),
-        EXPRESSIONS.. if word(ws, at, Expression::KIND) == 8 => word(ws, at, shapes::RUN_COUNT),
+        TYPES if word(ws, at, Type::KIND) == kind::STRUCT => word(ws, at, shapes::RUN_COUNT),
+        EXPRESSIONS.. if word(ws, at, Expression::KIND) == kind::COMPOSE => {
+            word(ws, at, shapes::RUN_COUNT)
+        }
         _ => 0,
     }
 }

@@ -19,6 +19,7 @@ pub struct Deps<'a> {
 }
 
 // From what the types before `from` have, what those before `to` have.
+#[tactic(auto, using(crate::proofs::Filling::deps))]
 fn deepest(from: u32, to: u32, before: usize, m: &Module) -> usize
     requires { (from ≤ to) × (before ≡ dep_before (areas_in m.now) from) }
     ensures { result ≡ dep_before (areas_in m.now) to }
@@ -45,9 +46,11 @@ impl<'a> Deps<'a> {
     }
 
     // Fills the first level for n types.
+    #[tactic(auto, using(crate::proofs::Filling::deps))]
     pub fn fill_starts(&mut self, n: u32)
         ensures { (self.new.m ≡ self.old.m) × (self.new.n ≡ n) }
     {
+        // Of no type while it is filled: a ghost field holds at every step.
         self.n = 0;
         let mut deep = 0;
         for k in 0..n.div_ceil(256).min(256) {
@@ -58,10 +61,12 @@ impl<'a> Deps<'a> {
     }
 
     // Fills the second level with block k.
+    #[tactic(auto, using(crate::proofs::Filling::deps, std::proofs::lemmas::Grind::common_steps))]
     fn fill_block(&mut self, k: u32)
         requires { k < 16777216 }
         ensures { (self.new.m ≡ self.old.m) × (self.new.held ≡ Some k) }
     {
+        // No block while it is filled, likewise.
         self.held = None;
         let mut deep = if k < 256 && k * 256 < self.n {
             self.starts[k as usize]
@@ -77,6 +82,7 @@ impl<'a> Deps<'a> {
 
     // One more than dep of the last of the first t types, 0 where there is none.
     // The block that it lies in is filled unless it is held.
+    #[tactic(auto, using(crate::proofs::Filling::deps))]
     pub fn dep_before(&mut self, t: u32) -> usize
         ensures { (result ≡ dep_before (areas_in self.old.m.now) t) × (self.new.m ≡ self.old.m) }
     {

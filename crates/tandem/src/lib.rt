@@ -21,6 +21,7 @@ pub struct Left {
 }
 
 // Makes the next visit, of the youngest expression where it is above dep of the youngest type; answers what is left.
+#[tactic(auto, using(crate::proofs::Turns::turns))]
 fn visit(marks: &mut [u64], b: Bases, rest: Left, dep: usize, m: &Module) -> Left
     requires { (dep ≡ dep_before (areas_in m.now) rest.types) × (0 < rest.types + rest.expressions) }
     ensures { OneVisit (areas_in m.now) b rest result marks.old marks.new }

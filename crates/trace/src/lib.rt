@@ -22,6 +22,7 @@ pub use roots::mark_roots;
 use slots::code;
 
 // The init that a word names: none where it is N.
+#[tactic(auto, unfolding(definitions::specs::References::named_by))]
 fn maybe(init: ExpressionHandle) -> Option<ExpressionHandle>
     ensures { init_of result ≡ named_by (may expressions) init.0 }
 {
@@ -29,6 +30,7 @@ fn maybe(init: ExpressionHandle) -> Option<ExpressionHandle>
 }
 
 // Marks an element's type and its init.
+#[tactic(auto, using(crate::proofs::Sets::puts))]
 fn mark_both(marks: &mut [u64], b: Bases, ty: TypeHandle, init: Option<ExpressionHandle>)
     ensures { Put (map (bit b) (at types ty.0 ∷ init_of init)) marks.old marks.new }
 {
@@ -39,6 +41,8 @@ fn mark_both(marks: &mut [u64], b: Bases, ty: TypeHandle, init: Option<Expressio
 }
 
 // Marks a constant with its type and init.
+// The element is put in before its type and init are read: one function that takes all three was slower.
+#[tactic(auto, using(crate::proofs::Behind::ones))]
 fn mark_constant(marks: &mut [u64], b: Bases, h: ConstantHandle, m: &Module)
     ensures { Marked (areas_in m.now) b (at constants h.0 ∷ []) marks.old marks.new }
 {
@@ -48,6 +52,7 @@ fn mark_constant(marks: &mut [u64], b: Bases, h: ConstantHandle, m: &Module)
 }
 
 // Marks an override with its type and init.
+#[tactic(auto, using(crate::proofs::Behind::ones))]
 fn mark_override(marks: &mut [u64], b: Bases, h: OverrideHandle, m: &Module)
     ensures { Marked (areas_in m.now) b (at overrides h.0 ∷ []) marks.old marks.new }
 {
@@ -56,6 +61,7 @@ fn mark_override(marks: &mut [u64], b: Bases, h: OverrideHandle, m: &Module)
 }
 
 // Marks a global with its type and init.
+#[tactic(auto, using(crate::proofs::Behind::ones))]
 fn mark_global(marks: &mut [u64], b: Bases, h: GlobalHandle, m: &Module)
     ensures { Marked (areas_in m.now) b (at globals h.0 ∷ []) marks.old marks.new }
 {
@@ -64,6 +70,7 @@ fn mark_global(marks: &mut [u64], b: Bases, h: GlobalHandle, m: &Module)
 }
 
 // Marks an element; a constant, override or global with its type and init at once.
+#[tactic(auto, using(crate::proofs::Sets::puts), unfolding(crate::proofs::Behind::opened))]
 pub fn mark(marks: &mut [u64], b: Bases, x: Element, m: &Module)
     ensures { Marked (areas_in m.now) b (element_of x ∷ []) marks.old marks.new }
 {
@@ -77,6 +84,7 @@ pub fn mark(marks: &mut [u64], b: Bases, x: Element, m: &Module)
 }
 
 // Marks what a slot names, by its code. No slot names a global.
+#[tactic(auto, using(crate::proofs::Sets::puts), unfolding(crate::proofs::Behind::coded))]
 fn trace_slot(marks: &mut [u64], b: Bases, code: u64, w: u32, m: &Module)
     ensures { Marked (areas_in m.now) b (named_by (decoded code) w) marks.old marks.new }
 {
@@ -110,6 +118,7 @@ fn trace_slots(marks: &mut [u64], b: Bases, ws: &[u32], at: usize, shape: u64, m
 }
 
 // Marks the handles of a run.
+#[tactic(auto, using(crate::proofs::Counting::loops))]
 fn trace_run(marks: &mut [u64], b: Bases, area: u32, run: &[u32])
     ensures { Put (map (bit b) (map (at (numbered area)) run.now)) marks.old marks.new }
 {
@@ -119,6 +128,7 @@ fn trace_run(marks: &mut [u64], b: Bases, area: u32, run: &[u32])
 }
 
 // Visits record i of an area: where it is marked, marks what it refers to.
+#[tactic(auto, unfolding(crate::specs::Bits::visit_bits))]
 pub fn trace(marks: &mut [u64], b: Bases, area: u32, i: u32, m: &Module)
     ensures { Visited (areas_in m.now) b (at (numbered area) i) marks.old marks.new }
 {
@@ -138,6 +148,7 @@ pub fn trace(marks: &mut [u64], b: Bases, area: u32, i: u32, m: &Module)
 }
 
 // Visits a type. As the Rust's `TypeTracer::trace_type`, under its caller's test: an unmarked type is spared the call.
+#[tactic(auto, unfolding(definitions::specs::Areas::numbered, crate::specs::Bits::visit_bits))]
 pub fn trace_type(marks: &mut [u64], b: Bases, h: TypeHandle, m: &Module)
     ensures { Visited (areas_in m.now) b (at types h.0) marks.old marks.new }
 {
@@ -147,6 +158,7 @@ pub fn trace_type(marks: &mut [u64], b: Bases, h: TypeHandle, m: &Module)
 }
 
 // Visits an expression. As `ExpressionTracer::trace_expression`, under its caller's test likewise.
+#[tactic(auto, unfolding(definitions::specs::Areas::numbered, crate::specs::Bits::visit_bits))]
 pub fn trace_expression(marks: &mut [u64], b: Bases, h: ExpressionHandle, m: &Module)
     ensures { Visited (areas_in m.now) b (at expressions h.0) marks.old marks.new }
 {

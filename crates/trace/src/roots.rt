@@ -14,6 +14,7 @@ use arena::{
 };
 
 // Is the record a root by itself ? A constant in both modes, the others with Yes.
+#[tactic(auto, unfolding(crate::proofs::Counting::rooted))]
 fn is_root(area: u32, i: u32, m: &Module) -> bool
     ensures { result ≡ root_in (areas_in m.now) (numbered area) i }
 {

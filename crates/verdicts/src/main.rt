@@ -118,7 +118,7 @@ fn lay(words: &mut [u32], from: usize, n: usize, back: usize, w: u32) -> usize {
 
 // Puts the words of an area from a start on, and says where they end.
 fn put(line: &[u8], area: usize, words: &mut [u32], from: usize) -> usize {
-    let letter = LETTERS[area.min(8)];
+    let letter = LETTERS[area.min(AREAS as usize)];
     let width = arena::width(area);
     let mut r = Reading::default();
     let mut end = from;
@@ -135,7 +135,7 @@ fn judged(line: &[u8]) -> Result<(), Fault> {
     let mut words = [0u32; WORDS];
     let maps = [0u32; MAP_ROOM];
     let mut rooms = [MAP_ROOM as u32; ARENAS as usize];
-    put(line, 8, &mut rooms, 0);
+    put(line, AREAS as usize, &mut rooms, 0);
     let mut ends = [0; AREAS as usize];
     let mut end = 0;
     for area in 0..AREAS as usize {
@@ -180,6 +180,7 @@ fn report_all(rt: &impl Print, text: &[u8]) -> io::Result<()> {
 }
 
 // Reads until the text is full or the input ends, and says how many bytes it put there.
+// By hand: the library reads to an input's end on the heap alone.
 fn read_full<R: io::Read>(input: &mut R, text: &mut [u8]) -> io::Result<usize>
     ensures { IfOk result (λ n. n ≤ length text.new) }
 {

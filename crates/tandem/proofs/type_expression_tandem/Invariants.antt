@@ -1,12 +1,15 @@
--- The loop's invariant: what is left of the visits makes the whole.
+-- The loop's invariant: a pass over what is left completes the whole.
 -- Assumes nothing.
 use mathlib.Core.Path.{◌≡◌}
-use Prim.Native.Nat.{◌-◌}
+use mathlib.Core.List.{List}
+use Prim.Native.Nat.{ℕ, ◌-◌}
 use Rattle.arena.specs.Lent.{areas_in}
-use Rattle.tandem.proofs.Turns.{Turns}
+use Rattle.tandem.specs.declared.Left.{Left}
+use Rattle.tandem.proofs.Turns.{Pass}
 use Rattle.tandem.proofs.type_expression_tandem.Given as goal
 
 abbrev pub invariant-loop : goal.invariant-loop
 invariant-loop l =
     (l.deps.m.now ≡ l.m)
-    × Turns (areas_in l.m) l.b l.fn.all l.budget l.initial.marks l.rest (l.budget - l.counter) l.marks
+    × ((r : Left) (u : List ℕ) → Pass (areas_in l.m) l.b l.rest (l.budget - l.counter) l.marks r u
+    → Pass (areas_in l.m) l.b l.fn.all l.budget l.initial.marks r u)

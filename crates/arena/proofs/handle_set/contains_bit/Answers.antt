@@ -1,10 +1,12 @@
--- Bit i of the words, as a digit. Assumes nothing.
-use Rattle.std.proofs.Common.{rules, ◌≡◌, ◌/◌, get_or, refl}
-use Rattle.arena.specs.HandleSet.{member}
+-- The bit as a number is 1 just where it is set. Assumes nothing.
+use mathlib.Core.Path.{◌≡◌, refl}
+use mathlib.Core.Bool.{Bool, true, false, cond}
+use lib.Dec.{eqb}
 use Rattle.arena.proofs.handle_set.contains_bit.Goals as goal
 
+is-one : (b : Bool) → eqb (cond b 1 0) 1 ≡ b
+is-one true = refl
+is-one false = refl
+
 pub returns : goal.returns
-unfolding member
-returns c =
-    let e : c.unwrap_or-word.result ≡ get_or c.args.marks.now (c.args.i / 64) 0 = search rules in
-    rw e refl
+returns c = rw c.bit_at.ensures (is-one _)

@@ -1,7 +1,5 @@
--- The loop carries that the areas from here on decide.
--- Assumes nothing.
-use mathlib.Core.Path.{◌≡◌}
-use Prim.Native.Nat.{◌-◌}
+-- The loop carries that the areas from here on decide. Assumes nothing.
+use Rattle.std.proofs.Common.{◌≡◌, ◌-◌}
 use Rattle.definitions.specs.Refusals.{refused, scan, scan_areas}
 use Rattle.arena.specs.Lent.{areas_in}
 use Rattle.faults.specs.Checking.{by_lengths, area_ok, areas_at}

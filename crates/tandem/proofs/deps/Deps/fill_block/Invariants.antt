@@ -1,10 +1,9 @@
 -- The loop's invariant: j entries stand, and `deep` is what the types before the next have.
 -- Assumes nothing.
 use mathlib.Core.Path.{◌≡◌}
-use Prim.Native.Nat.{◌+◌, ◌*◌}
+use Prim.Native.Nat.{◌+◌, ◌*◌, ◌<◌}
 use Rattle.arena.specs.Lent.{areas_in}
-use Rattle.tandem.specs.Deps.{dep_before}
-use Rattle.tandem.proofs.Filling.{Filled}
+use Rattle.tandem.specs.Deps.{dep_before, Level}
 use Rattle.std.proofs.Common.{None}
 use Rattle.tandem.proofs.deps.Deps.fill_block.Given as goal
 
@@ -14,4 +13,4 @@ invariant-loop-j l =
     (l.self.m ≡ l.fn.self.m)
     × (l.self.held ≡ None)
     × (l.deep ≡ dep_before s (l.k * 256 + l.j))
-    × Filled (λ i. dep_before s (l.k * 256 + (i + 1))) l.j l.self.block
+    × Level (λ i. i < l.j) (λ i. dep_before s (l.k * 256 + (i + 1))) l.self.block

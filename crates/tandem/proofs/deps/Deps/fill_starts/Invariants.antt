@@ -1,10 +1,9 @@
 -- The loop's invariant: the starts of k blocks stand, and `deep` is what the types before block k have.
 -- Assumes nothing.
 use mathlib.Core.Path.{◌≡◌}
-use Prim.Native.Nat.{◌*◌}
+use Prim.Native.Nat.{◌*◌, ◌<◌}
 use Rattle.arena.specs.Lent.{areas_in}
-use Rattle.tandem.specs.Deps.{dep_before}
-use Rattle.tandem.proofs.Filling.{Filled}
+use Rattle.tandem.specs.Deps.{dep_before, Level}
 use Rattle.tandem.proofs.deps.Deps.fill_starts.Given as goal
 
 abbrev pub invariant-loop-k : goal.invariant-loop-k
@@ -13,4 +12,4 @@ invariant-loop-k l =
     (l.self.m ≡ l.fn.self.m)
     × (l.self.n ≡ 0)
     × (l.deep ≡ dep_before s (l.k * 256))
-    × Filled (λ j. dep_before s (j * 256)) l.k l.self.starts
+    × Level (λ j. j < l.k) (λ j. dep_before s (j * 256)) l.self.starts
