@@ -68,7 +68,7 @@ fn adjust_slot(slot: Slot, w: u32, start: u32, maps: &ModuleMap) -> u32
     }
 }
 
-// The n words, whose slots the shape has, are moved and adjusted.
+// The n words, whose slots the shape has, are moved and adjusted. By numbers: both places lie in one slice.
 fn adjust_record(ws: &mut [u32], shift: Shift, n: usize, shape: u64, start: u32, maps: &ModuleMap)
     requires { shift.from + n ≤ length ws.old }
     ensures { ws.new ≡
@@ -81,7 +81,7 @@ fn adjust_record(ws: &mut [u32], shift: Shift, n: usize, shape: u64, start: u32,
     }
 }
 
-// An init adjusted. Unless it must be there it may be N.
+// An init adjusted. Unless it must be there it may be N: `must`, as `init_by` has it, tells a constant from the others.
 #[tactic(auto, unfolding(crate::specs::Rewrite::init_by))]
 fn adjust_init(must: bool, init: ExpressionHandle, expression_map: &[u32]) -> ExpressionHandle
     ensures { result.0 ≡ init_by must expression_map.now init.0 }

@@ -25,7 +25,7 @@ left x = x.exit.now
 abbrev pub maps_of : Words → Words → Words → Words → Words → Maps
 maps_of t c o g e = record { types = t; constants = c; overrides = o; globals = g; expressions = e }
 
--- the eight areas at one moment: `areas given ..` and `areas left ..` in an `ensures`
+-- the eight areas at one moment, as `Over` takes them
 abbrev pub areas : {X : Type 0} → (X → Words) → X → X → X → X → X → X → X → X → Areas
 areas at t c o g e m k q = areas_of (at t) (at c) (at o) (at g) (at e) (at m) (at k) (at q)
 

@@ -79,6 +79,7 @@ pub fn contains_bit(marks: &[u64], i: usize) -> bool
 }
 
 // Sets bit i; past the words' end nothing changes.
+// By a test: of the word that `get_mut` finds the proof did not close.
 pub fn insert_bit(marks: &mut [u64], i: usize)
     ensures { Inserted marks.old i marks.new }
 {

@@ -101,7 +101,7 @@ fn run(rt: &impl Print, case: u32, reader: &mut Reader) -> Result<io::Result<()>
     ))
 }
 
-// What a shown case's lines begin with. Apart from the slices, since pairs of two references in an array get no proof.
+// What a shown case's lines begin with. Apart from the slices: references in an array of pairs stand at several lifetimes.
 const NAMES: [&str; 13] = [
     "types",
     "constants",

@@ -66,6 +66,7 @@ impl<'a> Reader<'a> {
         if digits.is_empty() {
             return Err(Stop::Bad);
         }
+        // By digits: `parse` asks for text that is known to be UTF-8.
         let mut value: u32 = 0;
         for &b in digits {
             let digit = u32::from(b.saturating_sub(b'0'));

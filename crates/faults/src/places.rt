@@ -1,4 +1,5 @@
 // Numbers 4 to 7: nested loops over areas and their places, left at the first fault.
+// An area and a place go by numbers, as the rules and slots of every crate below take them.
 ghost use Rattle.std.specs.Prelude.{◌≡◌, true, ◌⊎◌, ◌+◌, ◌≤◌, ◌<◌, min};
 ghost use Rattle.definitions.specs.Areas.{numbered};
 ghost use Rattle.definitions.specs.References.{run};
@@ -77,6 +78,7 @@ fn places(number: Number, area: u32, m: &Counted) -> u32
 }
 
 // What is carried from record to record: under Shaped the counts before it, under Ordered the types with dep below it.
+// What a number does not carry is 0, as `carried_at` has it.
 #[derive(Clone, Copy)]
 pub struct Carried {
     pub sum: usize,

@@ -76,7 +76,7 @@ pub fn adjust(map: &[u32], handle: u32) -> Result<u32, NoHandle>
     }
 }
 
-// The first live word.
+// The first live word, and below the last: a line each, from either end.
 fn first_live(words: &[u32]) -> Option<u32>
     ensures { result ≡ find is_live words.now }
 {

@@ -201,7 +201,7 @@ fn typed_fits(l: Limits, ty: u32, init: u32, must: bool) -> bool
     ty < l.types && (!must && init == N || init < l.expressions)
 }
 
-// Does a constant, with its type and its init, lie within the limits ?
+// Does a constant, with its type and its init, lie within the limits ? One for each handle, over `typed_fits`.
 #[tactic(auto, unfolding(crate::specs::Rules::fit_by))]
 fn constant_fits(l: Limits, h: ConstantHandle, m: &Module) -> bool
     ensures { result ≡ fit_by (areas_in m.now) l constants h.0 }

@@ -45,7 +45,7 @@ impl<'a> Deps<'a> {
         }
     }
 
-    // Fills the first level for n types.
+    // Fills the first level for n types. By numbers, as the second: a number names its type too.
     #[tactic(auto, using(crate::proofs::Filling::deps))]
     pub fn fill_starts(&mut self, n: u32)
         ensures { (self.new.m ≡ self.old.m) × (self.new.n ≡ n) }
