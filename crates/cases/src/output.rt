@@ -31,7 +31,7 @@ fn put(rt: &impl Print, w: u32) -> io::Result<()> {
 
 // A line: the name, and the words.
 pub fn show(rt: &impl Print, name: &str, words: &[u32]) -> io::Result<()> {
-    print!(rt; "{name}")?;
+    rt.write_all(name.as_bytes())?;
     for run in words.chunk_by(|v, w| v == w) {
         let w = run[0];
         if run.len() > APART {
@@ -39,10 +39,10 @@ pub fn show(rt: &impl Print, name: &str, words: &[u32]) -> io::Result<()> {
             put(rt, w)?;
         } else {
             for &w in run {
-                print!(rt; " ")?;
+                rt.write_all(b" ")?;
                 put(rt, w)?;
             }
         }
     }
-    println!(rt; "")
+    rt.write_all(b"\n")
 }

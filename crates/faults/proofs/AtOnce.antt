@@ -86,14 +86,14 @@ module _ (s : Areas) (area i : ℕ) where
 -- what the walk has seen of an arena before record i: the counts, the leading types, and that all are good
 pub record Walked (s : Areas) (area i sum before : ℕ) : Type 0 where
   pub counted : sum ≡ min (runs_before s (numbered area) i) most
-  pub leads : area ≡ 4 → before ≡ (carried_to s 7 4 i).types
+  pub leads : before ≡ (carried_to s 7 area i).types
   pub good : (j n : ℕ) → j < i → 4 ≤ n → n < 8 → looks_at n area ≡ true → ok_at s n area j ≡ true
 
 -- a module all of whose arenas and mentions pass has no fault
 pub no-fault : (s : Areas) → ((a : ℕ) → a < 5 → Passed s a × Used s (numbered a)) → Passed s 7 → (n : ℕ) → 4 ≤ n → n < 8 → in_turn (scan_area s n) 0 8 ≡ accepted
 unfolding scan_area places
 no-fault s f g n l h =
-    turns-accepted (scan_area s n) 0 8 (λ a y. scan-says (λ v. v ≡ accepted) (ok_at s n a) (refused n a) (places_at s n a) refl (λ i u x. absurd (x (T_from_true _ (each a i y u)))))
+    turns-accepted (scan_area s n) 0 8 (λ a x y. scan-says (λ v. v ≡ accepted) (ok_at s n a) (refused n a) (places_at s n a) refl (λ i u x. absurd (x (T_from_true _ (each a i y u)))))
   where
     each : (a i : ℕ) → a < 8 → i < places_at s n a → ok_at s n a i ≡ true
     each a i y u = grind (arith, f, g)

@@ -2,6 +2,7 @@
 pub mod Opened
 pub mod Reading
 pub mod Scans
+pub mod Lengths
 pub mod Arenas
 pub mod Numbers
 pub mod Records

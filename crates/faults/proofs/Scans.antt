@@ -1,5 +1,5 @@
 -- First faults: what is left of a scan, or of several verdicts in turn, decides. Assumes nothing.
-use Rattle.std.proofs.Common.{◌≡◌, refl, Bool, cond, List, [], ◌∷◌, ℕ, zero, suc, ◌+◌, ◌-◌, ◌≤◌, ◌<◌, arith}
+use Rattle.std.proofs.Common.{◌≡◌, refl, Bool, true, cond, List, [], ◌∷◌, map, ℕ, zero, suc, ◌+◌, ◌-◌, ◌≤◌, ◌<◌, arith, length, get_or}
 use Rattle.definitions.specs.Refusals.{Verdict, accepted, first_of, scan}
 use Rattle.faults.specs.Checking.{in_turn}
 
@@ -25,11 +25,17 @@ module _ (f : ℕ → Verdict) (i n : ℕ) where
 
 pub ruleset scans = (scan_next, scan_end, turn_next, turn_end)
 
+-- a scan of good places
+pub all-accepted : (ok : ℕ → Bool) (bad : ℕ → Verdict) (i n : ℕ) → ((j : ℕ) → i ≤ j → j < i + n → ok j ≡ true) → scan ok bad i n ≡ accepted
+unfolding scan
+all-accepted ok bad i zero f = refl
+all-accepted ok bad i (suc n) f = rw (f i (omega arith) (omega arith)) (all-accepted ok bad (suc i) n (λ j l h. f j (omega arith) (omega arith)))
+
 -- verdicts that all accept
-pub turns-accepted : (f : ℕ → Verdict) (i n : ℕ) → ((j : ℕ) → j < i + n → f j ≡ accepted) → in_turn f i n ≡ accepted
+pub turns-accepted : (f : ℕ → Verdict) (i n : ℕ) → ((j : ℕ) → i ≤ j → j < i + n → f j ≡ accepted) → in_turn f i n ≡ accepted
 unfolding in_turn first_of
 turns-accepted f i zero h = refl
-turns-accepted f i (suc n) h = rw (h i (omega arith), turns-accepted f (suc i) n (λ j l. h j (omega arith)))
+turns-accepted f i (suc n) h = rw (h i (omega arith) (omega arith), turns-accepted f (suc i) n (λ j l k. h j (omega arith) (omega arith)))
 
 -- ---- a list of verdicts as verdicts in turn
 
@@ -50,3 +56,9 @@ unfolding first_of
 flat v l = grind (arith, single)
 
 pub ruleset flattened = (skips, single, ends, flat)
+
+-- those of a list, where place i + j has that of its number j
+pub list-turn : (f h : ℕ → Verdict) (i : ℕ) (l : List ℕ) → ((j : ℕ) → h (i + j) ≡ f (get_or l j 0)) → first_of (map f l) ≡ in_turn h i (length l)
+unfolding in_turn first_of
+list-turn f h i [] e = refl
+list-turn f h i (n ∷ l) e = grind (arith, flat, e 0, list-turn f h (suc i) l (λ j. grind (arith, e (suc j))))

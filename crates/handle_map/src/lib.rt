@@ -95,9 +95,13 @@ fn last_live(words: &[u32]) -> Option<u32>
 fn span(words: &[u32]) -> (u32, u32)
     ensures { ranged_of (Ok result) ≡ spanned (live words.now) }
 {
-    match (first_live(words), last_live(words)) {
-        (Some(first), Some(last)) => (first, last + 1),
-        _ => (0, 0),
+    // Where none is live, one reading tells it.
+    let Some(first) = first_live(words) else {
+        return (0, 0);
+    };
+    match last_live(words) {
+        Some(last) => (first, last + 1),
+        None => (0, 0),
     }
 }
 

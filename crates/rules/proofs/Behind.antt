@@ -6,7 +6,7 @@ use mathlib.Core.List.{List, [], ◌∷◌, ◌++◌}
 use Prim.Native.Nat.{ℕ}
 use lib.Dec.{eqb}
 use Rattle.definitions.specs.Lists.{all}
-use Rattle.definitions.specs.Areas.{N, Areas, Elem, at, types, constants, overrides, expressions, word, words}
+use Rattle.definitions.specs.Areas.{N, Areas, Elem, at, types, constants, overrides, globals, expressions, word, words}
 use Rattle.definitions.specs.Slots.{slots, body, layout}
 use Rattle.definitions.specs.References.{has_run, span, run, named_by, named_from, references}
 use Rattle.definitions.specs.Order.{behind, with_behind}
@@ -55,3 +55,9 @@ module _ (b : Bounds) (s : Areas) where
   of-override h =
       let e = word s overrides h 2 in
       ap (λ x. of_type (word s overrides h 1) && x) (all-may (within b) (eqb e N) (at expressions e))
+
+  pub of-global : (h : ℕ) → fits b s (at globals h ∷ []) ≡ of_type (word s globals h 0) && of_maybe (word s globals h 1)
+  unfolding opened
+  of-global h =
+      let e = word s globals h 1 in
+      ap (λ x. of_type (word s globals h 0) && x) (all-may (within b) (eqb e N) (at expressions e))

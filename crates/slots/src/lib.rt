@@ -15,7 +15,7 @@ ghost use Rattle.arena.specs.Elements.{element_of};
 use arena::{
     COMPONENTS, CONSTANTS, Constant, ConstantHandle, EXPRESSIONS, Element, Expression,
     ExpressionHandle, GLOBALS, Global, GlobalHandle, MEMBERS, Module, OVERRIDES, Override,
-    OverrideHandle, TYPES, Type, TypeHandle,
+    OverrideHandle, TYPES, Type, TypeHandle, least,
 };
 pub use shapes::expression_shape;
 
@@ -131,7 +131,7 @@ pub fn run<'a>(area: u32, ws: &[u32], at: usize, pool: &'a [u32]) -> &'a [u32]
 {
     let start = word(ws, at, shapes::RUN_START) as usize;
     let end = start + span(area, ws, at) as usize;
-    &pool[start.min(pool.len())..end.min(pool.len())]
+    &pool[least(start, pool.len())..least(end, pool.len())]
 }
 
 // The arena of an area.

@@ -20,8 +20,12 @@ module _ (s : Areas) where
   pub left-once : (t e t' e' : ℕ) → visits s t e ≡ visits s t' e' → (t ≡ t') × (e ≡ e')
   left-once t e t' e' q = omega (arith, simp visits-length at (ap length q), types-le t e t' e' q, types-le t' e' t e (sym q))
 
-  -- a budget of as many visits as a module's own sizes makes them all
+  -- a budget of as many visits as are left makes them all
+  pub whole-pass : (t e budget : ℕ) → t + e ≤ budget → take budget (visits s t e) ≡ visits s t e
+  whole-pass t e budget l = take_all budget (visits s t e) (rw (visits-length s t e) l)
+
+  -- of a module's own sizes, the whole order
   pub whole-order : (budget : ℕ) → size s types + size s expressions ≤ budget
       → take budget (visits s (size s types) (size s expressions)) ≡ order s
   unfolding order
-  whole-order budget l = take_all budget _ (rw (visits-length s (size s types) (size s expressions)) l)
+  whole-order budget l = whole-pass (size s types) (size s expressions) budget l

@@ -38,13 +38,13 @@ module _ (s : Areas) where
     pub visit-expression : (left : Left) (e : ℕ) {before after : List ℕ} → Visited s b (at expressions e) before after → left.expressions ≡ suc e
         → dep_before s left.types < left.expressions → OneVisit s b left (record { types = left.types; expressions = e }) before after
     visit-expression left e h z l =
-        record { element = at expressions e; next = ap (visits s left.types) z ∙ an-expression left.types e (omega arith); marked = h }
+        record { element = at expressions e; next = ap (visits s left.types) z ∙ an-expression left.types e (omega arith); marked = h; fewer = omega arith }
 
     pub visit-type : (left : Left) (t : ℕ) {before after : List ℕ} → Visited s b (at types t) before after → left.types ≡ suc t
         → left.expressions ≤ dep_before s left.types → OneVisit s b left (record { types = t; expressions = left.expressions }) before after
     unfolding dep_before
     visit-type left t h z l =
-        record { element = at types t; next = ap (λ u. visits s u left.expressions) z ∙ next-type s t left.expressions (rw z at l); marked = h }
+        record { element = at types t; next = ap (λ u. visits s u left.expressions) z ∙ next-type s t left.expressions (rw z at l); marked = h; fewer = omega arith }
 
     -- what the contract says of the answer and of the marks
     abbrev pub Pass : Left → ℕ → List ℕ → Left → List ℕ → Type 0

@@ -1,6 +1,6 @@
 -- One visit of the tandem.
 -- Assumes nothing.
-use Rattle.std.specs.Prelude.{◌≡◌, List, ◌∷◌, ℕ}
+use Rattle.std.specs.Prelude.{◌≡◌, List, ◌∷◌, ℕ, ◌≤◌}
 use Rattle.definitions.specs.Areas.{Areas, Elem}
 use Rattle.definitions.specs.Order.{visits}
 use Rattle.arena.specs.declared.handle_set.Bases.{Bases}
@@ -16,3 +16,4 @@ pub record OneVisit (s : Areas) (b : Bases) (left rest : Left) (before after : L
   pub element : Elem
   pub next : ahead s left ≡ element ∷ ahead s rest
   pub marked : Visited s b element before after
+  pub fewer : rest.types ≤ left.types

@@ -1,6 +1,6 @@
 // dep of a module's types, by two levels: what the types before each block of 256 have, and one block.
 // The scratch is 4 KiB for 65,536 types; what stands before a block past them is computed anew.
-ghost use Rattle.std.specs.Prelude.{◌≡◌, ◌≤◌, ◌<◌};
+ghost use Rattle.std.specs.Prelude.{◌≡◌, ◌*◌, ◌≤◌, ◌<◌};
 ghost use Rattle.arena.specs.Lent.{areas_in};
 ghost use Rattle.tandem.specs.Deps.{dep_before, Starts, Block, Held};
 
@@ -60,15 +60,15 @@ impl<'a> Deps<'a> {
         self.n = n;
     }
 
-    // Fills the second level with block k.
+    // Fills the second level with block k of the n types.
     #[tactic(auto, using(crate::proofs::Filling::deps, std::proofs::lemmas::Grind::common_steps))]
     fn fill_block(&mut self, k: u32)
-        requires { k < 16777216 }
-        ensures { (self.new.m ≡ self.old.m) × (self.new.held ≡ Some k) }
+        requires { k * 256 < self.old.n }
+        ensures { (self.new.m ≡ self.old.m) × (self.new.n ≡ self.old.n) × (self.new.held ≡ Some k) }
     {
         // No block while it is filled, likewise.
         self.held = None;
-        let mut deep = if k < 256 && k * 256 < self.n {
+        let mut deep = if k < 256 {
             self.starts[k as usize]
         } else {
             deepest(0, k * 256, 0, self.m)
@@ -80,11 +80,12 @@ impl<'a> Deps<'a> {
         self.held = Some(k);
     }
 
-    // One more than dep of the last of the first t types, 0 where there is none.
-    // The block that it lies in is filled unless it is held.
+    // One more than dep of the last of the first t of the n types, 0 where there is none.
+    // The block that it lies in is filled unless it is held; the first level stays.
     #[tactic(auto, using(crate::proofs::Filling::deps))]
     pub fn dep_before(&mut self, t: u32) -> usize
-        ensures { (result ≡ dep_before (areas_in self.old.m.now) t) × (self.new.m ≡ self.old.m) }
+        requires { t ≤ self.old.n }
+        ensures { (result ≡ dep_before (areas_in self.old.m.now) t) × (self.new.m ≡ self.old.m) × (self.new.n ≡ self.old.n) }
     {
         if t == 0 {
             return 0;

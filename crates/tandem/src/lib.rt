@@ -40,6 +40,9 @@ fn visit(marks: &mut [u64], b: Bases, rest: Left, dep: usize, m: &Module) -> Lef
 }
 
 // Makes as many visits as the budget says, or all that are ahead if fewer, and answers what is left then.
+// Not inlined: the scratch for dep is on the stack during the sweep alone. Over slices of its own, so that they need not be
+// read again after each mark.
+#[inline(never)]
 pub fn type_expression_tandem(
     marks: &mut [u64],
     b: Bases,
@@ -50,7 +53,8 @@ pub fn type_expression_tandem(
     ensures { (ahead (areas_in m.now) result ≡ drop budget (ahead (areas_in m.now) all))
         × Swept (areas_in m.now) b (take budget (ahead (areas_in m.now) all)) marks.old marks.new }
 {
-    let mut deps = Deps::new(m);
+    let m = *m;
+    let mut deps = Deps::new(&m);
     deps.fill_starts(all.types);
     let mut rest = all;
     for _ in 0..budget {
@@ -58,7 +62,7 @@ pub fn type_expression_tandem(
             break;
         }
         let dep = deps.dep_before(rest.types);
-        rest = visit(marks, b, rest, dep, m);
+        rest = visit(marks, b, rest, dep, &m);
     }
     rest
 }

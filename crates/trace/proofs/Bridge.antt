@@ -1,6 +1,6 @@
 -- Marks as bits stand for the definitions' marks: what is marked, a visit, the sweep, and the roots.
 -- Assumes nothing.
-use mathlib.Core.Path.{◌≡◌, refl, sym, ap, ap₂, subst, ◌∙◌}
+use mathlib.Core.Path.{◌≡◌, refl, sym, ap₂, subst, ◌∙◌}
 use mathlib.Core.Bool.{Bool, true, false, ◌&&◌, ◌||◌}
 use mathlib.Core.List.{List, [], ◌∷◌, ◌++◌, map, append-nil}
 use Prim.Native.Nat.{ℕ, ◌≤◌, ◌<◌}
@@ -21,7 +21,7 @@ use Rattle.arena.specs.HandleSet.{bases, records, bit, member, room}
 use Rattle.arena.specs.Marks.{Marks}
 use Rattle.arena.specs.Sizes.{sizes_of}
 use Rattle.arena.proofs.Elements.{Below, bit_below, bit-injective}
-use Rattle.trace.specs.Bits.{among, added, bits_of, Holds, Marked, visit_bits, sweep_bits, root_in, those_in, roots_in}
+use Rattle.trace.specs.Bits.{among, added, bits_of, Holds, Put, Marked, visit_bits, sweep_bits, root_in, those_in, roots_in}
 
 -- the roots of a module are those among all its records
 pub roots-in : (s : Areas) (keep : Bool) → roots_in s keep (sizes_of s) ≡ roots s keep
@@ -74,6 +74,13 @@ module _ (s : Areas) (small : records (size s) < 4294967296) where
         sweep-stands c xs (visit s m x) (visit_bits s (bases (size s)) n p x) (λ z j. w z (there z x xs j))
         (visit-stands x m p (w x (here x xs)) (λ y r. reached-within s (Inside s) c x y (w x (here x xs)) r) k)
 
+-- elements put in stand for as many marks more
+pub marks-added : (s : Areas) (xs m : List Elem) {before after : List ℕ} → records (size s) < 4294967296 → (bases (size s)).end ≤ room before
+    → Within xs (Inside s) → Marks s before m → Put (map (bit (bases (size s))) xs) before after → Marks s after (xs ++ m)
+marks-added s xs m {before} small fits w k p = record {
+  marked = λ x i. p.holds (bit (bases (size s)) x) ∙ added-stands s small (room before) fits xs m (member before) w k.marked x i;
+}
+
 order-inside : (s : Areas) → Within (order s) (Inside s)
 unfolding order
 order-inside s (at types u) h = lt-inside s types u (visits-among s _ _ _ h)
@@ -94,23 +101,25 @@ module _ (s : Areas) (c : Sound s) where
   pub records-small : records (size s) < 4294967296
   records-small = omega (arith, records-few, all-few)
 
+  -- some visits
+  pub sweep-marks : (xs m : List Elem) {before after : List ℕ} → (bases (size s)).end ≤ room before → Within xs (Inside s) → Marks s before m
+      → Holds before (sweep_bits s (bases (size s)) (room before) xs (member before)) after → Marks s after (sweep s xs m)
+  sweep-marks xs m {before} fits w k p = record {
+    marked = λ x i.
+        p.holds (bit (bases (size s)) x)
+        ∙ sweep-stands s records-small (room before) fits (inside-closed s c) xs m (member before) w k.marked x i;
+  }
+
   module _ (rs : List Elem) {before after : List ℕ} (fits : (bases (size s)).end ≤ room before) where
     -- any roots of the module, put into emptied words
     pub root-marks : Within rs (Inside s) → Marks s before [] → Marked s (bases (size s)) rs before after → Marks s after (with_behind s rs)
     unfolding bits_of
-    root-marks w k p = record {
-      marked = λ x i.
-          p.holds (bit (bases (size s)) x)
-          ∙ added-stands s records-small (room before) fits (with_behind s rs) [] (member before) (touched-within s (Inside s) (inside-closed s c) rs w) k.marked x i
-          ∙ ap (λ l. has l x) (append-nil (with_behind s rs));
-    }
+    root-marks w k p =
+        subst (Marks s after) (append-nil (with_behind s rs))
+        (marks-added s (with_behind s rs) [] records-small fits (touched-within s (Inside s) (inside-closed s c) rs w) k p)
 
     -- all visits
     pub kept-marks : Marks s before (with_behind s rs) → Holds before (sweep_bits s (bases (size s)) (room before) (order s) (member before)) after
         → Marks s after (kept_from s rs)
     unfolding kept_from
-    kept-marks k p = record {
-      marked = λ x i.
-          p.holds (bit (bases (size s)) x)
-          ∙ sweep-stands s records-small (room before) fits (inside-closed s c) (order s) (with_behind s rs) (member before) (order-inside s) k.marked x i;
-    }
+    kept-marks = sweep-marks (order s) (with_behind s rs) fits (order-inside s)

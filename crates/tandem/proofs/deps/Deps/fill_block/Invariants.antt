@@ -11,6 +11,7 @@ abbrev pub invariant-loop-j : goal.invariant-loop-j
 invariant-loop-j l =
     let s = areas_in l.self.m.now in
     (l.self.m ≡ l.fn.self.m)
+    × (l.self.n ≡ l.fn.self.n)
     × (l.self.held ≡ None)
     × (l.deep ≡ dep_before s (l.k * 256 + l.j))
     × Level (λ i. i < l.j) (λ i. dep_before s (l.k * 256 + (i + 1))) l.self.block
