@@ -1,7 +1,7 @@
 /* Cadnohal: compacts a flat shader module in place, or refuses it with a number and a place and changes nothing.
  *
  * Link libcadnohal.a (`bash build.sh` writes it to target/staticlib). It needs memset and nothing else, takes no
- * memory, keeps no state, and holds less than 64 KiB of stack: 45.5 KiB as measured, CADNOHAL_STACK with some to spare.
+ * memory, keeps no state, and holds less than 64 KiB of stack: 45.3 KiB as measured, CADNOHAL_STACK with some to spare.
  *
  * Every function takes any words: it checks everything itself, and for each content of the slices its answer and every
  * word afterwards are fixed, refused input too. That is proved of the library's code.
@@ -73,7 +73,7 @@ extern "C" {
 uint32_t cadnohal_abi(void);
 
 /* Bytes of stack that are enough for any call, the arguments on it included. Measured at the limits, of the x86-64
- * archive: 46,600 for cadnohal_compact, 1,300 for cadnohal_check, fewer for the others. */
+ * archive: below 46,600 for cadnohal_compact, 1,300 for cadnohal_check, fewer for the others. */
 #define CADNOHAL_STACK 49152
 
 /* "No handle". */

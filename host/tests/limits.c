@@ -399,6 +399,9 @@ int main(void)
         printf("limits: %-23s %6zu bytes of stack\n", NAMES[function], most[function]);
         deepest = most[function] > deepest ? most[function] : deepest;
     }
+    /* The header's figures. */
+    hold(most[COMPACT] <= 46600, "cadnohal_compact holds no more stack than the header says", most[COMPACT]);
+    hold(most[CHECK] <= 1300, "nor does cadnohal_check", most[CHECK]);
     hold(deepest <= CADNOHAL_STACK, "no call holds more than CADNOHAL_STACK bytes of stack", deepest);
     hold(CADNOHAL_STACK - deepest < 4096, "which has less than 4 KiB to spare", deepest);
     hold(CADNOHAL_STACK < 64 * 1024, "and is less than 64 KiB", CADNOHAL_STACK);
